@@ -1,0 +1,4 @@
+pub mod Fences
+pub mod Growth
+pub mod Ladders
+pub mod Answers

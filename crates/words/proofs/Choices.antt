@@ -1,0 +1,35 @@
+-- What holds of both sides of a choice holds of the choice. Assumes nothing.
+use mathlib.Core.Path.{_≡_, refl, sym, subst}
+use mathlib.Core.Bool.{Bool, true, false, cond, not}
+use lib.Dec.{T}
+
+-- by cases, each side knowing how the test came out
+pub cond-cases {ℓ κ} : {A : Type ℓ} (P : A → Type κ) (b : Bool) {x y : A} → (T b → P x) → (T (not b) → P y) → P (cond b x y)
+cond-cases P true f g = f tt
+cond-cases P false f g = g tt
+
+-- the side that a true test picks
+pub cond-true {ℓ} : {A : Type ℓ} (b : Bool) (x y : A) → T b → cond b x y ≡ x
+cond-true true x y t = refl
+cond-true false x y t = absurd t
+
+-- the side that a false test picks
+pub cond-false {ℓ} : {A : Type ℓ} (b : Bool) (x y : A) → T (not b) → cond b x y ≡ y
+cond-false true x y t = absurd t
+cond-false false x y t = refl
+
+-- a test that came out true, as an equation, and one that came out false
+pub is-true : (b : Bool) → T b → b ≡ true
+is-true true t = refl
+is-true false t = absurd t
+
+pub is-false : (b : Bool) → T (not b) → b ≡ false
+is-false true t = absurd t
+is-false false t = refl
+
+-- and from the equation
+pub true-is : {b : Bool} → b ≡ true → T b
+true-is e = subst T (sym e) tt
+
+pub false-is : {b : Bool} → b ≡ false → T (not b)
+false-is e = subst (λ (t : Bool). T (not t)) (sym e) tt

@@ -1,0 +1,91 @@
+-- Lists in pieces of one width: what stands at piece k after a store at piece k or another, and lists made of pieces. Assumes nothing.
+use Prim.Native.Nat.{ℕ, zero, suc, _+_, _*_, _≤_, _<_}
+use mathlib.Core.Path.{_≡_, refl, sym, ap, _∙_, subst}
+use mathlib.Core.Logic.{_≢_, ⊎-elim}
+use mathlib.Core.List.{List, [], _∷_, _++_}
+use native.Mathlib.Nat.{mul-le-mul-right, suc-mul, zero-mul, not-suc-le-zero, eq-or-lt-of-le, le-of-suc-le-suc}
+use native.Mathlib.Decide.{ℕ-discrete, decLt}
+use native.Mathlib.Omega.{arith}
+use lib.ListN.{length, take, drop, length-append, length-drop}
+use lib.Seq.{take-append-le, drop-append-le, take-length, drop-at}
+use Rattle.words.specs.Loops.{upTo}
+use Rattle.words.specs.Pieces.{part, write, at, put, join}
+use Rattle.words.proofs.Writes.{length-part, length-write, part-write-same, part-write-below, drop-write-above}
+use Rattle.words.proofs.Loops.{upTo-next}
+
+module _ (w : ℕ) where
+  -- ---- one store
+
+  pub put-length : (X : List ℕ) (k : ℕ) (l : List ℕ) → length (put w X k l) ≡ length X
+  unfolding put
+  put-length X k l = length-write X (k * w) l
+
+  -- piece k of n pieces ends within them
+  pub piece-end : (n k : ℕ) → k < n → k * w + w ≤ n * w
+  piece-end n k l = omega (arith, mul-le-mul-right w l, suc-mul k w)
+
+  pub at-length : (X : List ℕ) (n : ℕ) → length X ≡ n * w → (k : ℕ) → k < n → length (at w X k) ≡ w
+  unfolding at
+  at-length X n e k l = length-part X (k * w) w (omega (arith, piece-end n k l))
+
+  module _ (X : List ℕ) (k : ℕ) (l : List ℕ) (size : length l ≡ w) where
+    pub at-put-same : (n : ℕ) → length X ≡ n * w → k < n → at w (put w X k l) k ≡ l
+    unfolding at put
+    at-put-same n e h = ap (λ (z : ℕ). part (write X (k * w) l) (k * w) z) (sym size) ∙ part-write-same X (k * w) l (omega (arith, piece-end n k h))
+
+    pub at-put-other : (j : ℕ) → j ≢ k → at w (put w X k l) j ≡ at w X j
+    unfolding at put
+    at-put-other j h = go (decLt j k) (decLt k j)
+      where
+        go : Dec (j < k) → Dec (k < j) → part (write X (k * w) l) (j * w) w ≡ part X (j * w) w
+        go (yes a) b = part-write-below X (k * w) l (j * w) w (piece-end k j a)
+        go (no a) (yes b) = ap (take w) (drop-write-above X (k * w) l (j * w) (omega (arith, piece-end j k b)))
+        go (no a) (no b) = absurd (h (omega arith))
+
+    -- a fact of each piece after a store
+    pub at-put {κ} : (P : List ℕ → Type κ) (n : ℕ) → length X ≡ n * w → (j : ℕ) → j < n → (j ≡ k → P l) → P (at w X j) → P (at w (put w X k l) j)
+    at-put P n e j m here there = go (ℕ-discrete j k)
+      where
+        go : Dec (j ≡ k) → P (at w (put w X k l) j)
+        go (yes q) = subst P (sym (ap (at w (put w X k l)) q ∙ at-put-same n e (subst (λ (z : ℕ). z < n) q m))) (here q)
+        go (no f) = subst P (sym (at-put-other j f)) there
+
+  -- ---- lists made of pieces
+
+  at-front : (A B : List ℕ) (k : ℕ) → k * w + w ≤ length A → at w (A ++ B) k ≡ at w A k
+  unfolding at
+  at-front A B k h =
+      ap (take w) (drop-append-le (k * w) A B (omega arith)) ∙ take-append-le w (drop (k * w) A) B (simp length-drop (omega arith))
+
+  at-end : (A B : List ℕ) (k : ℕ) → length A ≡ k * w → length B ≡ w → at w (A ++ B) k ≡ B
+  unfolding at
+  at-end A B k h e = ap (take w) (drop-at A B (k * w) h) ∙ rw (← e) (take-length B)
+
+  module _ (f : ℕ → List ℕ) (sized : (k : ℕ) → length (f k) ≡ w) where
+    pub join-length : (n : ℕ) → length (join f n) ≡ n * w
+    unfolding join upTo
+    join-length zero = sym (zero-mul w)
+    join-length (suc n) = length-append (join f n) (f n) ∙ omega (arith, join-length n, sized n, suc-mul n w)
+
+    pub join-at : (n k : ℕ) → k < n → at w (join f n) k ≡ f k
+    unfolding join upTo
+    join-at zero k h = absurd (not-suc-le-zero h)
+    join-at (suc n) k h =
+        let X : List ℕ = join f n in
+        ⊎-elim
+        (λ (e : k ≡ n). subst (λ (z : ℕ). at w (X ++ f n) z ≡ f z) (sym e) (at-end X (f n) n (join-length n) (sized n)))
+        (λ (l : k < n). at-front X (f n) k (omega (arith, join-length n, piece-end n k l)) ∙ join-at n k l)
+        (eq-or-lt-of-le (le-of-suc-le-suc h))
+
+-- one piece more
+pub join-zero : (f : ℕ → List ℕ) → join f 0 ≡ []
+unfolding join upTo
+join-zero f = refl
+
+pub join-suc : (f : ℕ → List ℕ) (n : ℕ) → join f (suc n) ≡ join f n ++ f n
+unfolding join upTo
+join-suc f n = refl
+
+pub join-next : (f : ℕ → List ℕ) (n : ℕ) → join f (n + 1) ≡ join f n ++ f n
+unfolding join
+join-next f n = upTo-next (λ k xs. xs ++ f k) [] n

@@ -1,0 +1,4 @@
+pub mod Loops
+pub mod Pieces
+pub mod Bounds
+pub mod Rows
