@@ -1,11 +1,14 @@
--- What a loop keeps, what one of its steps sets and the others keep, and what it sums. Assumes nothing.
+-- What a loop keeps, what one of its steps sets and the others keep, what it sums and tests. Assumes nothing.
 use Prim.Native.Nat.{ℕ, zero, suc, _+_, _*_, _≤_, _<_, zero-le}
-use mathlib.Core.Path.{_≡_, refl, ap, _∙_, subst}
+use mathlib.Core.Path.{_≡_, refl, sym, ap, _∙_, subst}
+use mathlib.Core.Bool.{Bool, true, false, not, _||_}
 use mathlib.Core.Logic.{⊎-elim}
+use lib.Dec.{T}
 use native.Mathlib.Nat.{le-refl, not-suc-le-zero, eq-or-lt-of-le, le-of-suc-le-suc, le-step, suc-mul}
 use native.Mathlib.Numerals.{add-one}
+use native.Mathlib.Decide.{le-ind}
 use native.Mathlib.Omega.{arith}
-use Rattle.words.specs.Loops.{upTo, total}
+use Rattle.words.specs.Loops.{upTo, total, any}
 
 -- ---- one step more
 
@@ -45,6 +48,10 @@ module _ {ℓ κ} {S : Type ℓ} (f : ℕ → S → S) where
       ))
       .1 l
 
+-- what holds of each number below n, and of n, holds of each below n + 1
+pub below-next {κ} : (P : ℕ → Type κ) (n : ℕ) → ((k : ℕ) → k < n → P k) → P n → (k : ℕ) → k < n + 1 → P k
+below-next P n h p k l = ⊎-elim (λ (e : k ≡ n). subst P (sym e) p) (h k) (eq-or-lt-of-le (le-of-suc-le-suc (rw add-one at l)))
+
 -- steps that agree make loops that agree
 pub upTo-ext {ℓ} : {S : Type ℓ} (f g : ℕ → S → S) (s : S) (n : ℕ) → ((j : ℕ) (t : S) → j < n → f j t ≡ g j t) → upTo f s n ≡ upTo g s n
 unfolding upTo
@@ -64,6 +71,10 @@ total-suc f n = refl
 pub total-next : (f : ℕ → ℕ) (n : ℕ) → total f (n + 1) ≡ total f n + f n
 total-next f n = ap (total f) (add-one n) ∙ total-suc f n
 
+-- more terms, no smaller a sum
+pub total-mono : (f : ℕ → ℕ) {m n : ℕ} → m ≤ n → total f m ≤ total f n
+total-mono f {m} {n} h = le-ind (λ (k : ℕ). total f m ≤ total f k) (le-refl (total f m)) (λ k l i. rw (total-suc f k) (omega arith)) n h
+
 -- n terms of at most b each
 pub total-le : (f : ℕ → ℕ) (b n : ℕ) → ((k : ℕ) → k < n → f k ≤ b) → total f n ≤ n * b
 total-le f b zero h = rw total-zero zero-le
@@ -72,3 +83,44 @@ total-le f b (suc n) h = rw (total-suc f n) (omega (arith, total-le f b n (λ k 
 pub total-ext : (f g : ℕ → ℕ) (n : ℕ) → ((k : ℕ) → k < n → f k ≡ g k) → total f n ≡ total g n
 unfolding total
 total-ext f g n h = upTo-ext (λ k t. t + f k) (λ k t. t + g k) 0 n (λ j t l. ap (λ (x : ℕ). t + x) (h j l))
+
+-- ---- tests
+
+or-right : (x y : Bool) → T y → T (x || y)
+or-right true y t = tt
+or-right false y t = t
+
+or-left : (x y : Bool) → T x → T (x || y)
+or-left true y t = tt
+or-left false y t = absurd t
+
+or-neither : (x y : Bool) → T (not x) → T (not y) → T (not (x || y))
+or-neither true y t u = absurd t
+or-neither false y t u = u
+
+nor-left : (x y : Bool) → T (not (x || y)) → T (not x)
+nor-left true y t = t
+nor-left false y t = tt
+
+nor-right : (x y : Bool) → T (not (x || y)) → T (not y)
+nor-right true y t = absurd t
+nor-right false y t = t
+
+-- one that passes is enough
+pub any-one : (f : ℕ → Bool) (n k : ℕ) → k < n → T (f k) → T (any f n)
+unfolding any
+any-one f n k l t =
+    upTo-sets (λ k b. b || f k) (λ _. Unit {0}) T false n k l tt (λ _ _ _ _. tt) (λ b _. or-right b (f k) t) (λ j b _ _ h. or-left b (f j) h)
+
+-- none passes
+pub any-none : (f : ℕ → Bool) (n : ℕ) → ((k : ℕ) → k < n → T (not (f k))) → T (not (any f n))
+unfolding any
+any-none f n h = upTo-keeps (λ k b. b || f k) (λ _ b. T (not b)) false n tt (λ k b l t. or-neither b (f k) t (h k l))
+
+pub none-any : (f : ℕ → Bool) (n : ℕ) → T (not (any f n)) → (k : ℕ) → k < n → T (not (f k))
+unfolding any upTo
+none-any f zero h k l = absurd (not-suc-le-zero l)
+none-any f (suc n) h k l =
+    ⊎-elim (λ (e : k ≡ n). subst (λ (z : ℕ). T (not (f z))) (sym e) (nor-right (any f n) (f n) h))
+    (λ (m : k < n). none-any f n (nor-left (any f n) (f n) h) k m)
+    (eq-or-lt-of-le (le-of-suc-le-suc l))

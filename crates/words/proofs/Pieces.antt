@@ -1,17 +1,17 @@
 -- Lists in pieces of one width: what stands at piece k after a store at piece k or another, and lists made of pieces. Assumes nothing.
-use Prim.Native.Nat.{ℕ, zero, suc, _+_, _*_, _≤_, _<_}
+use Prim.Native.Nat.{ℕ, zero, suc, _+_, _-_, _*_, _/_, _≤_, _<_}
 use mathlib.Core.Path.{_≡_, refl, sym, ap, _∙_, subst}
 use mathlib.Core.Logic.{_≢_, ⊎-elim}
 use mathlib.Core.List.{List, [], _∷_, _++_}
-use native.Mathlib.Nat.{mul-le-mul-right, suc-mul, zero-mul, not-suc-le-zero, eq-or-lt-of-le, le-of-suc-le-suc}
+use native.Mathlib.Nat.{mul-le-mul-right, div-mul-le-self, suc-mul, zero-mul, not-suc-le-zero, eq-or-lt-of-le, le-of-suc-le-suc}
 use native.Mathlib.Decide.{ℕ-discrete, decLt}
 use native.Mathlib.Omega.{arith}
-use lib.ListN.{length, take, drop, length-append, length-drop}
+use lib.ListN.{length, getD, take, drop, length-append, length-drop}
 use lib.Seq.{take-append-le, drop-append-le, take-length, drop-at}
-use Rattle.words.specs.Loops.{upTo}
+use Rattle.words.specs.Loops.{upTo, total}
 use Rattle.words.specs.Pieces.{part, write, at, put, join}
-use Rattle.words.proofs.Writes.{length-part, length-write, part-write-same, part-write-below, drop-write-above}
-use Rattle.words.proofs.Loops.{upTo-next}
+use Rattle.words.proofs.Writes.{length-part, getD-part, length-write, part-write-same, part-write-below, drop-write-above}
+use Rattle.words.proofs.Loops.{upTo-next, upTo-ext, total-zero, total-suc}
 
 module _ (w : ℕ) where
   -- ---- one store
@@ -24,9 +24,23 @@ module _ (w : ℕ) where
   pub piece-end : (n k : ℕ) → k < n → k * w + w ≤ n * w
   piece-end n k l = omega (arith, mul-le-mul-right w l, suc-mul k w)
 
+  -- and piece k of as many as n words hold ends within them
+  pub quotient-end : (n k : ℕ) → k < n / w → k * w + w ≤ n
+  quotient-end n k l = omega (arith, piece-end (n / w) k l, div-mul-le-self n w)
+
   pub at-length : (X : List ℕ) (n : ℕ) → length X ≡ n * w → (k : ℕ) → k < n → length (at w X k) ≡ w
   unfolding at
   at-length X n e k l = length-part X (k * w) w (omega (arith, piece-end n k l))
+
+  -- piece k as a lent part has it, from its start to its end
+  pub piece-part : (X : List ℕ) (k : ℕ) → part X (k * w) (k * w + w - k * w) ≡ at w X k
+  unfolding at
+  piece-part X k = let e : k * w + w - k * w ≡ w = omega arith in ap (part X (k * w)) e
+
+  -- word i of piece k
+  pub piece-word : (X : List ℕ) (k i : ℕ) → i < w → getD (at w X k) i 0 ≡ getD X (k * w + i) 0
+  unfolding at
+  piece-word X k i h = getD-part X (k * w) w i h
 
   module _ (X : List ℕ) (k : ℕ) (l : List ℕ) (size : length l ≡ w) where
     pub at-put-same : (n : ℕ) → length X ≡ n * w → k < n → at w (put w X k l) k ≡ l
@@ -89,3 +103,12 @@ join-suc f n = refl
 pub join-next : (f : ℕ → List ℕ) (n : ℕ) → join f (n + 1) ≡ join f n ++ f n
 unfolding join
 join-next f n = upTo-next (λ k xs. xs ++ f k) [] n
+
+-- pieces of their own lengths
+pub join-total : (f : ℕ → List ℕ) (g : ℕ → ℕ) → ((k : ℕ) → length (f k) ≡ g k) → (n : ℕ) → length (join f n) ≡ total g n
+join-total f g h zero = ap length (join-zero f) ∙ sym (total-zero g)
+join-total f g h (suc n) = ap length (join-suc f n) ∙ length-append (join f n) (f n) ∙ rw (join-total f g h n, h n) (sym (total-suc g n))
+
+pub join-ext : (f g : ℕ → List ℕ) (n : ℕ) → ((k : ℕ) → k < n → f k ≡ g k) → join f n ≡ join g n
+unfolding join
+join-ext f g n h = upTo-ext (λ k xs. xs ++ f k) (λ k xs. xs ++ g k) [] n (λ k xs l. ap (λ (y : List ℕ). xs ++ y) (h k l))

@@ -3,11 +3,13 @@ use Prim.Native.Nat.{ℕ, zero, suc, _+_, _≤_, _<_, zero-le, suc-le-suc}
 use mathlib.Core.Path.{_≡_, refl, sym, ap, _∙_, subst}
 use mathlib.Core.Bool.{Bool, true, false, cond, not}
 use mathlib.Core.List.{List, [], _∷_, _++_}
-use native.Mathlib.Nat.{not-suc-le-zero, le-of-suc-le-suc, le-antisymm, lt-of-not-le}
+use mathlib.Core.Logic.{⊎-elim}
+use native.Mathlib.Nat.{le-refl, le-step, eq-or-lt-of-le, not-suc-le-zero, le-of-suc-le-suc, le-antisymm, lt-of-not-le}
 use native.Mathlib.Omega.{arith}
 use lib.ListN.{length, getD}
 use lib.Dec.{T, T-not}
-use Rattle.words.specs.Rows.{Row, Weighed, clear, refused, weigh, row, Decides, NoneHolds}
+use Rattle.words.specs.Rows.{Row, Weighed, clear, refused, weigh, each, row, Decides, NoneHolds}
+use Rattle.words.specs.Loops.{upTo}
 
 -- ---- the front row
 
@@ -69,6 +71,12 @@ weigh-clear-front (r ∷ xs) ys e =
 pub weigh-clear-back : (xs ys : List Row) → weigh (xs ++ ys) ≡ clear → weigh ys ≡ clear
 weigh-clear-back xs ys e = sym (weigh-append xs ys (weigh-clear-front xs ys e)) ∙ e
 
+pub clear-cons : (r : Row) (rs : List Row) → weigh (r ∷ rs) ≡ clear → T (not (r .holds)) × (weigh rs ≡ clear)
+clear-cons r rs e =
+    either (T (not (r .holds)) × (weigh rs ≡ clear)) (r .holds)
+    (λ t. absurd (refused-not-clear (r .number) (r .place) (sym (weigh-held r rs t) ∙ e)))
+    (λ t. (t, sym (weigh-passed r rs t) ∙ e))
+
 -- ---- THE LAW OF ROWS
 
 -- row k decides: the answer is its refusal
@@ -117,3 +125,43 @@ pub decides-one : (rs : List Row) (j k : ℕ) → Decides rs j → Decides rs k 
 decides-one rs j k a b = le-antisymm
     (le-of-suc-le-suc (lt-of-not-le (λ (g : suc k ≤ j). T-not (row rs k .holds) (a .none-before k g) (b .held))))
     (le-of-suc-le-suc (lt-of-not-le (λ (g : suc j ≤ k). T-not (row rs j .holds) (b .none-before j g) (a .held))))
+
+-- ---- a row for each number
+
+each-suc : (f : ℕ → Row) (n : ℕ) → each f (suc n) ≡ each f n ++ f n ∷ []
+unfolding each upTo
+each-suc f n = refl
+
+-- none of them holds
+pub each-clear : (f : ℕ → Row) (n : ℕ) → ((k : ℕ) → k < n → T (not (f k .holds))) → weigh (each f n) ≡ clear
+unfolding each upTo
+each-clear f zero h = weigh-none
+each-clear f (suc n) h =
+    weigh-append (each f n) (f n ∷ []) (each-clear f n (λ k l. h k (le-step l)))
+    ∙ weigh-passed (f n) [] (h n (le-refl (suc n))) ∙ weigh-none
+
+-- row k is the first that does
+pub each-refused : (f : ℕ → Row) (n k : ℕ) → k < n → T (f k .holds) → ((j : ℕ) → j < k → T (not (f j .holds))) → weigh (each f n) ≡ refused (f k .number) (f k .place)
+each-refused f zero k l t h = absurd (not-suc-le-zero l)
+each-refused f (suc n) k l t h =
+    ap weigh (each-suc f n)
+    ∙ ⊎-elim
+    (λ (e : k ≡ n).
+    weigh-append (each f n) (f n ∷ []) (each-clear f n (λ j m. h j (subst (λ (z : ℕ). j < z) (sym e) m)))
+    ∙ weigh-held (f n) [] (subst (λ (z : ℕ). T (f z .holds)) e t)
+    ∙ ap (λ (z : ℕ). refused (f z .number) (f z .place)) (sym e))
+    (λ (m : k < n). weigh-front (each f n) (f n ∷ []) (f k .number) (f k .place) (each-refused f n k m t h))
+    (eq-or-lt-of-le (le-of-suc-le-suc l))
+
+-- and back
+pub clear-each : (f : ℕ → Row) (n : ℕ) → weigh (each f n) ≡ clear → (k : ℕ) → k < n → T (not (f k .holds))
+clear-each f zero e k l = absurd (not-suc-le-zero l)
+clear-each f (suc n) e k l =
+    let all : weigh (each f n ++ f n ∷ []) ≡ clear = sym (ap weigh (each-suc f n)) ∙ e in
+    ⊎-elim
+    (λ (q : k ≡ n). subst (λ (z : ℕ). T (not (f z .holds))) (sym q) (last (weigh-clear-back (each f n) (f n ∷ []) all)))
+    (λ (m : k < n). clear-each f n (weigh-clear-front (each f n) (f n ∷ []) all) k m)
+    (eq-or-lt-of-le (le-of-suc-le-suc l))
+  where
+    last : weigh (f n ∷ []) ≡ clear → T (not (f n .holds))
+    last c = either (T (not (f n .holds))) (f n .holds) (λ t. absurd (refused-not-clear (f n .number) (f n .place) (sym (weigh-held (f n) [] t) ∙ c))) (λ t. t)

@@ -1,0 +1,7 @@
+pub mod Tests
+pub mod Branches
+pub mod Filling
+pub mod Tops
+pub mod Accepted
+pub mod Stages
+pub mod Counts

@@ -1,0 +1,5 @@
+pub mod Request
+pub mod Shape
+pub mod Rows
+pub mod Answer
+pub mod Accepted
