@@ -22,7 +22,7 @@ module _ (p q : ℕ) where
 
   pub fences-length : (n : ℕ) → length (fences p q n) ≡ n
   unfolding fences
-  fences-length n = join-length 1 (λ j. fence p q j ∷ []) (λ _. refl) n ∙ mul-one n
+  fences-length n = join-length 1 (λ j. fence p q j ∷ []) n (λ _ _. refl) ∙ mul-one n
 
   fences-suc : (n : ℕ) → fences p q (suc n) ≡ fences p q n ++ (fence p q n ∷ [])
   unfolding fences

@@ -5,3 +5,4 @@ pub mod Tops
 pub mod Accepted
 pub mod Stages
 pub mod Counts
+pub mod Cells

@@ -3,7 +3,7 @@ use Prim.Native.Nat.{ℕ, zero, suc, _+_, _-_, _*_, _/_, _≤_, _<_}
 use mathlib.Core.Path.{_≡_, refl, sym, ap, _∙_, subst}
 use mathlib.Core.Logic.{_≢_, ⊎-elim}
 use mathlib.Core.List.{List, [], _∷_, _++_}
-use native.Mathlib.Nat.{mul-le-mul-right, div-mul-le-self, suc-mul, zero-mul, not-suc-le-zero, eq-or-lt-of-le, le-of-suc-le-suc}
+use native.Mathlib.Nat.{mul-le-mul-right, div-mul-le-self, le-refl, le-step, suc-mul, zero-mul, not-suc-le-zero, eq-or-lt-of-le, le-of-suc-le-suc}
 use native.Mathlib.Decide.{ℕ-discrete, decLt}
 use native.Mathlib.Omega.{arith}
 use lib.ListN.{length, getD, take, drop, length-append, length-drop}
@@ -75,21 +75,21 @@ module _ (w : ℕ) where
   unfolding at
   at-end A B k h e = ap (take w) (drop-at A B (k * w) h) ∙ rw (← e) (take-length B)
 
-  module _ (f : ℕ → List ℕ) (sized : (k : ℕ) → length (f k) ≡ w) where
-    pub join-length : (n : ℕ) → length (join f n) ≡ n * w
-    unfolding join upTo
-    join-length zero = sym (zero-mul w)
-    join-length (suc n) = length-append (join f n) (f n) ∙ omega (arith, join-length n, sized n, suc-mul n w)
+  pub join-length : (f : ℕ → List ℕ) (n : ℕ) → ((k : ℕ) → k < n → length (f k) ≡ w) → length (join f n) ≡ n * w
+  unfolding join upTo
+  join-length f zero sized = sym (zero-mul w)
+  join-length f (suc n) sized = length-append (join f n) (f n) ∙ omega (arith, join-length f n (λ k l. sized k (le-step l)), sized n (le-refl (suc n)), suc-mul n w)
 
-    pub join-at : (n k : ℕ) → k < n → at w (join f n) k ≡ f k
-    unfolding join upTo
-    join-at zero k h = absurd (not-suc-le-zero h)
-    join-at (suc n) k h =
-        let X : List ℕ = join f n in
-        ⊎-elim
-        (λ (e : k ≡ n). subst (λ (z : ℕ). at w (X ++ f n) z ≡ f z) (sym e) (at-end X (f n) n (join-length n) (sized n)))
-        (λ (l : k < n). at-front X (f n) k (omega (arith, join-length n, piece-end n k l)) ∙ join-at n k l)
-        (eq-or-lt-of-le (le-of-suc-le-suc h))
+  pub join-at : (f : ℕ → List ℕ) (n : ℕ) → ((k : ℕ) → k < n → length (f k) ≡ w) → (k : ℕ) → k < n → at w (join f n) k ≡ f k
+  unfolding join upTo
+  join-at f zero sized k h = absurd (not-suc-le-zero h)
+  join-at f (suc n) sized k h =
+      let X : List ℕ = join f n in
+      let long = join-length f n (λ j l. sized j (le-step l)) in
+      ⊎-elim
+      (λ (e : k ≡ n). subst (λ (z : ℕ). at w (X ++ f n) z ≡ f z) (sym e) (at-end X (f n) n long (sized n (le-refl (suc n)))))
+      (λ (l : k < n). at-front X (f n) k (omega (arith, long, piece-end n k l)) ∙ join-at f n (λ j m. sized j (le-step m)) k l)
+      (eq-or-lt-of-le (le-of-suc-le-suc h))
 
 -- one piece more
 pub join-zero : (f : ℕ → List ℕ) → join f 0 ≡ []

@@ -1,0 +1,6 @@
+pub mod Labels
+pub mod Ties
+pub mod Node
+pub mod Start
+pub mod Round
+pub mod Costs
