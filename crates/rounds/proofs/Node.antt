@@ -77,8 +77,11 @@ module _ (R : Req) (B : List ℕ) (whole : length B ≡ span R) (c : ℕ) (l : L
     offer-good j h zs g =
         cond-cases (λ Z. Good R Low Z j zs) (wins R l (at (width R) B c))
         (λ u. let r = put-keeps (λ z. T (filled R z) × Low zs (costs R z)) j h
-        (λ e. (t, fair .chain _ _ _ (subst (λ z. Low zs (costs R (at (width R) B z))) e (g .low))
-        (win-low R Low fair l (at (width R) B c) u (subst (λ z. T (filled R (at (width R) B z))) e (g .full)))))
+        (λ e. (
+          t,
+          fair .chain _ _ _ (subst (λ z. Low zs (costs R (at (width R) B z))) e (g .low))
+              (win-low R Low fair l (at (width R) B c) u (subst (λ z. T (filled R (at (width R) B z))) e (g .full))),
+        ))
         (g .full, g .low) in record { full = r .0; low = r .1 })
         (λ _. g)
 

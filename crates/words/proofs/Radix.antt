@@ -1,8 +1,8 @@
 -- Numbers in mixed radix, once over the number of digits: in range, and one number means one digit at each place. Assumes nothing.
-use Prim.Native.Nat.{ℕ, zero, suc, _+_, _*_, _/_, _%_, _≤_, _<_}
+use Prim.Native.Nat.{ℕ, zero, suc, _+_, _*_, _^_, _/_, _%_, _≤_, _<_}
 use mathlib.Core.Path.{_≡_, refl, sym, ap, _∙_}
 use mathlib.Core.Logic.{⊎-elim}
-use native.Mathlib.Nat.{le-refl, le-step, eq-or-lt-of-le, le-of-suc-le-suc, not-suc-le-zero}
+use native.Mathlib.Nat.{le-of-eq, mul-le-mul, pow-zero, pow-suc, le-refl, le-step, eq-or-lt-of-le, le-of-suc-le-suc, not-suc-le-zero}
 use native.Mathlib.Omega.{arith}
 use lib.Arith.{digits-lt, digits-div, digits-mod}
 use Rattle.words.specs.Loops.{upTo}
@@ -55,3 +55,9 @@ module _ (b : ℕ → ℕ) where
   pub radix-ext : (g g′ : ℕ → ℕ) (n : ℕ) → ((j : ℕ) → j < n → g j ≡ g′ j) → radix b g n ≡ radix b g′ n
   unfolding radix
   radix-ext g g′ n h = upTo-ext (λ j v. v * b j + g j) (λ j v. v * b j + g′ j) 0 n (λ j t l. ap (λ (z : ℕ). t * b j + z) (h j l))
+
+  -- bases of at most m make at most m to the n numbers
+  pub volume-pow : (m n : ℕ) → ((j : ℕ) → j < n → b j ≤ m) → volume b n ≤ m ^ n
+  unfolding volume upTo
+  volume-pow m zero h = le-of-eq (sym (pow-zero m))
+  volume-pow m (suc n) h = rw pow-suc (mul-le-mul (volume-pow m n (λ j l. h j (le-step l))) (h n (le-refl (suc n))))

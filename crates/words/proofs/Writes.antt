@@ -6,7 +6,7 @@ use native.Mathlib.Omega.{arith}
 use mathlib.Core.Path.{_≡_, refl, sym, ap, _∙_}
 use mathlib.Core.List.{List, [], _∷_, _++_, append-assoc}
 use lib.ListN.{length, getD, set, take, drop, length-take, length-drop}
-use lib.Seq.{drop-cons, set-at, drop-drop, drop-at, take-length, getD-take, getD-drop}
+use lib.Seq.{drop-cons, set-at, drop-drop, drop-at, take-length, take-suc, length-take-le, getD-take, getD-drop}
 use Rattle.words.specs.Pieces.{part, write}
 
 -- ---- parts
@@ -154,3 +154,42 @@ write-append (x ∷ xs) zero (y ∷ ys) zs =
 -- the store of a turn that fills a list from the front
 pub front-more : (xs d : List ℕ) (i v : ℕ) → length xs ≡ i → i < length d → set (xs ++ drop i d) i v ≡ (xs ++ (v ∷ [])) ++ drop (i + 1) d
 front-more xs d i v e h = rw (drop-cons d i 0 h, set-at xs (getD d i 0) (drop (suc i) d) v i e, add-one, append-assoc xs (v ∷ []) (drop (suc i) d))
+
+-- and of one that copies s over a list
+pub copy-more : (s d : List ℕ) (i : ℕ) → i < length s → i < length d → set (take i s ++ drop i d) i (getD s i 0) ≡ take (i + 1) s ++ drop (i + 1) d
+copy-more s d i hs hd =
+    front-more (take i s) d i (getD s i 0) (length-take-le i s (omega arith)) hd
+    ∙ ap (λ (r : List ℕ). r ++ drop (i + 1) d) (sym (take-suc s i 0 hs) ∙ ap (λ (k : ℕ). take k s) (sym (add-one i)))
+
+-- ---- single words
+
+write-none : (xs : List ℕ) (a : ℕ) → write xs a [] ≡ xs
+unfolding write
+write-none [] a = refl
+write-none (x ∷ xs) zero = refl
+write-none (x ∷ xs) (suc a) = ap (λ (r : List ℕ). x ∷ r) (write-none xs a)
+
+-- a store is a write of one word
+pub set-write : (xs : List ℕ) (a v : ℕ) → set xs a v ≡ write xs a (v ∷ [])
+unfolding write
+set-write [] a v = refl
+set-write (x ∷ xs) zero v = ap (λ (r : List ℕ). v ∷ r) (sym (write-none xs zero))
+set-write (x ∷ xs) (suc a) v = ap (λ (r : List ℕ). x ∷ r) (set-write xs a v)
+
+-- a store right behind a write makes it one word longer
+pub set-behind : (xs : List ℕ) (a : ℕ) (ys : List ℕ) (k v : ℕ) → length ys ≡ k → set (write xs a ys) (a + k) v ≡ write xs a (ys ++ (v ∷ []))
+set-behind xs a ys k v e = set-write (write xs a ys) (a + k) v ∙ ap (λ (n : ℕ). write (write xs a ys) (a + n) (v ∷ [])) (sym e) ∙ write-append xs a ys (v ∷ [])
+
+-- a part that is one word longer
+pub part-more : (xs : List ℕ) (a k : ℕ) → a + k < length xs → part xs a (k + 1) ≡ part xs a k ++ (getD xs (a + k) 0 ∷ [])
+part-more xs a k h =
+    let n = length-drop a xs in
+    ap (λ (m : ℕ). take m (drop a xs)) (add-one k) ∙ take-suc (drop a xs) k 0 (omega arith) ∙ ap (λ (v : ℕ). part xs a k ++ (v ∷ [])) (getD-drop a xs k 0)
+
+-- a word before a write
+pub getD-write-below : (xs : List ℕ) (a : ℕ) (ys : List ℕ) (i : ℕ) → i < a → getD (write xs a ys) i 0 ≡ getD xs i 0
+unfolding write
+getD-write-below [] a ys i h = refl
+getD-write-below (x ∷ xs) zero ys i h = absurd (omega arith)
+getD-write-below (x ∷ xs) (suc a) ys zero h = refl
+getD-write-below (x ∷ xs) (suc a) ys (suc i) h = getD-write-below xs a ys i (omega arith)

@@ -1,0 +1,4 @@
+pub mod Candidates
+pub mod Places
+pub mod Keeping
+pub mod Finding

@@ -1,0 +1,107 @@
+// What the rounds do to one label's words: make a candidate, find its cell, place it, keep a label.
+use fences::seek;
+use words::clear;
+use words::copy;
+ghost use mathlib.Core.Path.{_≡_};
+ghost use mathlib.Core.Bool.{cond};
+ghost use Prim.Native.Nat.{ℕ, _+_, _≤_, _<_};
+ghost use lib.ListN.{length, take, drop};
+ghost use Rattle.words.specs.Pieces.{part, write};
+ghost use Rattle.rounds.specs.Label.{label, sum};
+ghost use Rattle.labels.specs.Words.{winsOver, keepWords, Adds, Seeks, Found-at};
+
+// The candidate that a label's costs, an arc's costs and two words make.
+pub fn add_costs(out: &mut [u32], lab: &[u32], arc: &[u32], d: usize, step: u32, from: u32)
+    requires { ⌜ Adds d (now out) (now lab) (now arc) ⌝ }
+    ensures { λ _. ⌜ now (out .exit) ≡ label (sum (take d (now (lab .entry))) (drop 2 (now (arc .entry)))) step from ⌝ }
+{
+    let mut k = 0;
+    while k < d {
+        out[k] = lab[k] + arc[k + 2];
+        k += 1;
+    }
+    out[d] = step;
+    out[d + 1] = from;
+}
+
+// Whether a candidate takes a cell's place: the cell is empty, or holds a strictly larger last cost.
+pub fn wins(cand: &[u32], cell: &[u32], d: usize) -> bool
+    requires { ⌜ (length (now cand) ≡ d + 2) × (length (now cell) ≡ d + 2) × (1 ≤ d) ⌝ }
+    ensures { λ r. ⌜ r ≡ winsOver d (now (cand .entry)) (now (cell .entry)) ⌝ }
+{
+    if cell[d] == 0 {
+        return true;
+    }
+    cand[d - 1] < cell[d - 1]
+}
+
+// A candidate is offered to a cell.
+pub fn place(cell: &mut [u32], cand: &[u32], d: usize)
+    requires { ⌜ (length (now cell) ≡ d + 2) × (length (now cand) ≡ d + 2) × (1 ≤ d) ⌝ }
+    ensures { λ _. ⌜ now (cell .exit) ≡ cond (winsOver d (now (cand .entry)) (now (cell .entry))) (now (cand .entry)) (now (cell .entry)) ⌝ }
+{
+    if wins(cand, cell, d) {
+        copy(cell, cand);
+    }
+}
+
+// The costs of the label at `at`, kept at `to`, word by word.
+fn keep_costs(labels: &mut [u32], at: usize, to: usize, d: usize)
+    requires { ⌜ (at + d + 2 ≤ to) × (to + d + 2 ≤ length (now labels)) ⌝ }
+    ensures { λ _. ⌜ now (labels .exit) ≡ write (now (labels .entry)) to (label (part (now (labels .entry)) at d) 2 0) ⌝ }
+{
+    let mut k = 0;
+    while k < d {
+        labels[to + k] = labels[at + k];
+        k += 1;
+    }
+    labels[to + d] = 2;
+    labels[to + d + 1] = 0;
+}
+
+// The label at `at` is kept at `to`; an empty one leaves an empty one.
+pub fn keep(labels: &mut [u32], at: usize, to: usize, d: usize)
+    requires { ⌜ (at + d + 2 ≤ to) × (to + d + 2 ≤ length (now labels)) ⌝ }
+    ensures { λ _. ⌜ now (labels .exit) ≡ write (now (labels .entry)) to (keepWords d (part (now (labels .entry)) at (d + 2))) ⌝ }
+{
+    let step_at = at + d;
+    if labels[step_at] == 0 {
+        let end = to + d + 2;
+        clear(&mut labels[to..end]);
+        return;
+    }
+    keep_costs(labels, at, to, d);
+}
+
+// A cell, and the places that its number is made of.
+pub struct Found {
+    pub cell: usize,
+    pub places: [usize; 2],
+}
+
+// The cell of a candidate among the ladders, looked for from a hint for each criterion.
+pub fn find_cell(
+    cand: &[u32],
+    ladders: &[u32],
+    counts: [usize; 2],
+    graded: usize,
+    hint: [usize; 2],
+) -> Found
+    requires { ⌜ Seeks counts graded (now ladders) (now cand) hint ⌝ }
+    ensures { λ r. ⌜ Found-at counts graded (now (ladders .entry)) (now (cand .entry)) (r .cell) (r .places) ⌝ }
+{
+    let mut places = hint;
+    let mut cell: usize = 0;
+    let mut at: usize = 0;
+    let mut j: usize = 0;
+    while j < graded {
+        let size = counts[j];
+        let end = at + size + 1;
+        let found = seek(&ladders[at..end], cand[j], places[j]);
+        places[j] = found;
+        cell = cell * size + found;
+        at = end;
+        j += 1;
+    }
+    Found { cell, places }
+}
