@@ -6,3 +6,4 @@ pub mod Accepted
 pub mod Stages
 pub mod Counts
 pub mod Cells
+pub mod Ladders

@@ -10,8 +10,8 @@ use lib.ListN.{length, getD, take, drop, length-append, length-drop}
 use lib.Seq.{take-append-le, drop-append-le, take-length, drop-at}
 use Rattle.words.specs.Loops.{upTo, total}
 use Rattle.words.specs.Pieces.{part, write, at, put, join}
-use Rattle.words.proofs.Writes.{length-part, getD-part, length-write, part-write-same, part-write-below, drop-write-above}
-use Rattle.words.proofs.Loops.{upTo-next, upTo-ext, total-zero, total-suc}
+use Rattle.words.proofs.Writes.{length-part, getD-part, length-write, part-write-same, part-write-below, drop-write-above, part-append}
+use Rattle.words.proofs.Loops.{upTo-next, upTo-ext, total-zero, total-suc, total-mono}
 
 module _ (w : ℕ) where
   -- ---- one store
@@ -91,6 +91,10 @@ module _ (w : ℕ) where
       (λ (l : k < n). at-front X (f n) k (omega (arith, long, piece-end n k l)) ∙ join-at f n (λ j m. sized j (le-step m)) k l)
       (eq-or-lt-of-le (le-of-suc-le-suc h))
 
+-- a part of the front list
+pub part-front : (A B : List ℕ) (a n : ℕ) → a + n ≤ length A → part (A ++ B) a n ≡ part A a n
+part-front A B a n h = ap (take n) (drop-append-le a A B (omega arith)) ∙ take-append-le n (drop a A) B (simp length-drop (omega arith))
+
 -- one piece more
 pub join-zero : (f : ℕ → List ℕ) → join f 0 ≡ []
 unfolding join upTo
@@ -108,6 +112,19 @@ join-next f n = upTo-next (λ k xs. xs ++ f k) [] n
 pub join-total : (f : ℕ → List ℕ) (g : ℕ → ℕ) → ((k : ℕ) → length (f k) ≡ g k) → (n : ℕ) → length (join f n) ≡ total g n
 join-total f g h zero = ap length (join-zero f) ∙ sym (total-zero g)
 join-total f g h (suc n) = ap length (join-suc f n) ∙ length-append (join f n) (f n) ∙ rw (join-total f g h n, h n) (sym (total-suc g n))
+
+-- and piece k where it begins
+pub join-part : (f : ℕ → List ℕ) (g : ℕ → ℕ) → ((k : ℕ) → length (f k) ≡ g k) → (n k : ℕ) → k < n → part (join f n) (total g k) (g k) ≡ f k
+join-part f g h zero k l = absurd (not-suc-le-zero l)
+join-part f g h (suc n) k l =
+    ap (λ (x : List ℕ). part x (total g k) (g k)) (join-suc f n)
+    ∙ ⊎-elim
+    (λ (e : k ≡ n). subst (λ (z : ℕ). part (join f n ++ f n) (total g z) (g z) ≡ f z) (sym e) (part-append (join f n) (f n) (total g n) (g n) (join-total f g h n) (h n)))
+    (λ (m : k < n). part-front (join f n) (f n) (total g k) (g k) (ends m) ∙ join-part f g h n k m)
+    (eq-or-lt-of-le (le-of-suc-le-suc l))
+  where
+    ends : k < n → total g k + g k ≤ length (join f n)
+    ends m = let a = join-total f g h n in let b = total-suc g k in let c : total g (suc k) ≤ total g n = total-mono g m in omega arith
 
 pub join-ext : (f g : ℕ → List ℕ) (n : ℕ) → ((k : ℕ) → k < n → f k ≡ g k) → join f n ≡ join g n
 unfolding join

@@ -61,3 +61,11 @@ module _ (b : ℕ → ℕ) where
   unfolding volume upTo
   volume-pow m zero h = le-of-eq (sym (pow-zero m))
   volume-pow m (suc n) h = rw pow-suc (mul-le-mul (volume-pow m n (λ j l. h j (le-step l))) (h n (le-refl (suc n))))
+
+pub volume-ext : (b b′ : ℕ → ℕ) (n : ℕ) → ((j : ℕ) → j < n → b j ≡ b′ j) → volume b n ≡ volume b′ n
+unfolding volume
+volume-ext b b′ n h = upTo-ext (λ j v. v * b j) (λ j v. v * b′ j) 1 n (λ j t l. ap (λ (z : ℕ). t * z) (h j l))
+
+pub radix-base : (b b′ g : ℕ → ℕ) (n : ℕ) → ((j : ℕ) → j < n → b j ≡ b′ j) → radix b g n ≡ radix b′ g n
+unfolding radix
+radix-base b b′ g n h = upTo-ext (λ j v. v * b j + g j) (λ j v. v * b′ j + g j) 0 n (λ j t l. ap (λ (z : ℕ). t * z + g j) (h j l))

@@ -1,0 +1,3 @@
+pub mod Offering
+pub mod Frames
+pub mod Trying

@@ -1,0 +1,17 @@
+-- `label_at`: the product stays within the block. Assumes nothing.
+use mathlib.Core.Path.{_≡_, refl, sym, ap, _∙_}
+use Prim.Native.Nat.{ℕ, _+_, _*_, _≤_, _<_}
+use Rattle.words.proofs.Pieces.{piece-end}
+use borrow.Author.Needs.{needs}
+use native.Mathlib.Omega.{arith}
+use Rattle.table.proofs.label_at.Statement.{statement}
+use Rattle.table.proofs.label_at.Tie as tie
+
+mul-result : tie.Need-mul-result
+mul-result c = let a = c .before .args in let p = c .before .pre in let h = piece-end (a .s .w) (a .s .cells) (a .c) (p .1) in let e = p .0 .whole in let m = p .0 .small in omega arith
+
+returns : tie.Need-returns
+returns c = let a = c .before .args in let p = c .before .pre in let h = piece-end (a .s .w) (a .s .cells) (a .c) (p .1) in let e = p .0 .whole in (refl, omega arith)
+
+pub label-at-spec : {M : Type 1} → statement M
+label-at-spec = tie.close (tie.spec mul-result returns)

@@ -1,0 +1,142 @@
+// The label table: layer 0, the rounds, and the build that checks a request and draws its table up in the lent buffers.
+use labels::Found;
+use labels::add_costs;
+use labels::find_cell;
+use labels::keep;
+use labels::place;
+use request::Request;
+ghost use mathlib.Core.Path.{_≡_};
+ghost use mathlib.Core.Bool.{cond};
+ghost use Prim.Native.Nat.{ℕ, _+_, _-_, _*_, _≤_, _<_};
+ghost use lib.ListN.{length, getD};
+ghost use Rattle.words.specs.Pieces.{part, at, put, write, join};
+ghost use Rattle.request.specs.Request.{asked, width, arcCount};
+ghost use Rattle.request.specs.Shape.{cells};
+ghost use Rattle.labels.specs.Words.{winsOver, keepWords, Seeks, Found-at};
+ghost use Rattle.rounds.specs.Label.{filled};
+ghost use Rattle.rounds.specs.Rounds.{span, bit, filledIn, tryCell, tryArc};
+ghost use Rattle.words.specs.Radix.{volume};
+ghost use Rattle.table.specs.Frame.{offered, extended, Sized, Extends, Framed, Apart, Hinted};
+
+// The sizes that the loops go by, worked out once: the request, its criteria, the words of a label, the cells of a node,
+// the words of a node's block, the bucket counts.
+struct Frame {
+    request: Request,
+    d: usize,
+    w: usize,
+    cells: usize,
+    span: usize,
+    counts: [usize; 2],
+}
+
+// What goes along an arc from try to try: the places last found, from which the next are looked for, and the tries so far.
+struct Going {
+    places: [usize; 2],
+    tries: u64,
+}
+
+// Where a cell's words begin in a block.
+fn label_at(s: Frame, c: usize) -> usize
+    requires { ⌜ Sized s ⌝ }
+    requires { ⌜ c < s .cells ⌝ }
+    ensures { λ r. ⌜ (r ≡ c * s .w) × (r + s .w ≤ s .span) ⌝ }
+{
+    c * s.w
+}
+
+// A candidate is offered to a cell of the block at `to`.
+fn offer(labels: &mut [u32], cand: &[u32], s: Frame, to: usize, cell: usize)
+    requires { ⌜ Sized s ⌝ }
+    requires { ⌜ (cell < s .cells) × (length (now cand) ≡ s .w) × (to + s .span ≤ length (now labels)) ⌝ }
+    ensures { λ _. ⌜ now (labels .exit) ≡ write (now (labels .entry)) to (offered (s .d) (part (now (labels .entry)) to (s .span)) cell (now (cand .entry))) ⌝ }
+{
+    let at = to + label_at(s, cell);
+    let end = at + s.w;
+    place(&mut labels[at..end], cand, s.d);
+}
+
+// A candidate is offered to its own cell of the block at `to`, looked for from a hint.
+fn offer_found(
+    labels: &mut [u32],
+    cand: &[u32],
+    ladders: &[u32],
+    s: Frame,
+    to: usize,
+    hint: [usize; 2],
+) -> Found
+    requires { ⌜ Sized s ⌝ }
+    requires { ⌜ Seeks (s .counts) (s .d - 1) (now ladders) (now cand) hint ⌝ }
+    requires { ⌜ (volume (λ i. getD (s .counts) i 0) (s .d - 1) ≡ s .cells) × (length (now cand) ≡ s .w) × (to + s .span ≤ length (now labels)) ⌝ }
+    ensures { λ r. ⌜ (now (labels .exit) ≡ write (now (labels .entry)) to (offered (s .d) (part (now (labels .entry)) to (s .span)) (r .cell) (now (cand .entry)))) × Found-at (s .counts) (s .d - 1) (now (ladders .entry)) (now (cand .entry)) (r .cell) (r .places) ⌝ }
+{
+    let counts = s.counts;
+    let found = find_cell(cand, ladders, counts, s.d - 1, hint);
+    offer(labels, cand, s, to, found.cell);
+    found
+}
+
+// The label at `at`, in cell c of its block, is extended by arc a, and the candidate offered to the block at `to`.
+fn extend(
+    labels: &mut [u32],
+    arcs: &[u32],
+    ladders: &[u32],
+    s: Frame,
+    at: usize,
+    to: usize,
+    a: usize,
+    c: usize,
+    hint: [usize; 2],
+) -> Found
+    requires { ⌜ Sized s ⌝ }
+    requires { ⌜ Extends s (now labels) (now arcs) (now ladders) at to a c hint ⌝ }
+    ensures { λ r. ⌜ (now (labels .exit) ≡ write (now (labels .entry)) to (offered (s .d) (part (now (labels .entry)) to (s .span)) (r .cell) (extended (s .d) (part (now (labels .entry)) at (s .w)) (part (now (arcs .entry)) (a * s .w) (s .w)) a c))) × Found-at (s .counts) (s .d - 1) (now (ladders .entry)) (extended (s .d) (part (now (labels .entry)) at (s .w)) (part (now (arcs .entry)) (a * s .w) (s .w)) a c) (r .cell) (r .places) ⌝ }
+{
+    let w = s.w;
+    let end = at + w;
+    let arc_at = a * w;
+    let arc_end = arc_at + w;
+    let mut cand = [0u32; 5];
+    add_costs(
+        &mut cand[..w],
+        &labels[at..end],
+        &arcs[arc_at..arc_end],
+        s.d,
+        (a + 3) as u32,
+        c as u32,
+    );
+    offer_found(labels, &cand[..w], ladders, s, to, hint)
+}
+
+// Cell c of the tail's block, at `from`, tried by arc a into the head's block, at `to`.
+fn try_cell(
+    labels: &mut [u32],
+    arcs: &[u32],
+    ladders: &[u32],
+    s: Frame,
+    from: usize,
+    to: usize,
+    a: usize,
+    c: usize,
+    going: Going,
+) -> Going
+    requires { ⌜ Framed (asked (s .request) (now arcs)) s (now ladders) ⌝ }
+    requires { ⌜ Apart (asked (s .request) (now arcs)) (now labels) from to ⌝ }
+    requires { ⌜ (a < arcCount (asked (s .request) (now arcs))) × (c < cells (asked (s .request) (now arcs))) ⌝ }
+    requires { ⌜ Hinted (asked (s .request) (now arcs)) (going .places) ⌝ }
+    requires { ⌜ going .tries ≤ c ⌝ }
+    ensures { λ r. ⌜ now (labels .exit) ≡ write (now (labels .entry)) to (tryCell (asked (s .request) (now (arcs .entry))) (part (now (labels .entry)) from (span (asked (s .request) (now (arcs .entry))))) a c (part (now (labels .entry)) to (span (asked (s .request) (now (arcs .entry)))))) ⌝ }
+    ensures { λ r. ⌜ (Hinted (asked (s .request) (now (arcs .entry))) (r .places)) × (r .tries ≡ going .tries + bit (filled (asked (s .request) (now (arcs .entry))) (at (width (asked (s .request) (now (arcs .entry)))) (part (now (labels .entry)) from (span (asked (s .request) (now (arcs .entry))))) c))) ⌝ }
+{
+    let at = from + label_at(s, c);
+    let step_at = at + s.d;
+    if labels[step_at] == 0 {
+        return going;
+    }
+    let hint = going.places;
+    let found = extend(labels, arcs, ladders, s, at, to, a, c, hint);
+    let places = found.places;
+    Going {
+        places,
+        tries: going.tries + 1,
+    }
+}
