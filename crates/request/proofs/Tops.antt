@@ -10,8 +10,9 @@ use Rattle.words.specs.Loops.{upTo}
 use Rattle.words.specs.Pieces.{at}
 use Rattle.words.proofs.Loops.{upTo-keeps, upTo-sets}
 use Rattle.words.proofs.Pieces.{at-length}
-use Rattle.request.specs.Request.{Req, width, arcCount, arc, arcCosts, reach}
-use Rattle.request.specs.Shape.{largestOf, largest, top}
+use Rattle.fences.proofs.Fences.{buckets-is}
+use Rattle.request.specs.Request.{Req, width, arcCount, arc, arcCosts, reach, ratioP, ratioQ}
+use Rattle.request.specs.Shape.{largestOf, largest, top, buckets}
 use Rattle.request.specs.Accepted.{Regular, Small}
 
 -- cost j of arc a among the arc's words
@@ -46,3 +47,8 @@ module _ (R : Req) (small : Small R) where
   pub top-le : (j : ℕ) → j < R .criteria → top R j ≤ 63000000
   unfolding top reach
   top-le j l = mul-le-mul (small .hops-few) (largest-le j l)
+
+-- there is always a bucket
+pub buckets-pos : (R : Req) (j : ℕ) → 0 < buckets R j
+unfolding buckets
+buckets-pos R j = let e = buckets-is (ratioP R j) (ratioQ R j) (top R j) in omega arith

@@ -4,3 +4,4 @@ pub mod Node
 pub mod Start
 pub mod Round
 pub mod Costs
+pub mod Tries

@@ -46,13 +46,17 @@ pub data Origin (R : Req) (F : ℕ → List ℕ) (v : ℕ) (B : List ℕ) (c : �
 
 -- ---- lengths: a store never changes one
 
+pub tryCell-length : (R : Req) (F : List ℕ) (a f : ℕ) (B : List ℕ) → length (tryCell R F a f B) ≡ length B
+unfolding tryCell offer
+tryCell-length R F a f B =
+    cond-cases (λ (Z : List ℕ). length Z ≡ length B) (filled R (at (width R) F f))
+    (λ _. cond-cases (λ (Z : List ℕ). length Z ≡ length B) (wins R (made R F a f) (at (width R) B (cell R (cand R F a f)))) (λ _. put-length (width R) B (cell R (cand R F a f)) (made R F a f)) (λ _. refl))
+    (λ _. refl)
+
 pub tryArc-length : (R : Req) (F : List ℕ) (a : ℕ) (B : List ℕ) → length (tryArc R F a B) ≡ length B
-unfolding tryArc tryCell offer
+unfolding tryArc
 tryArc-length R F a B =
-    upTo-keeps (tryCell R F a) (λ _ (X : List ℕ). length X ≡ length B) B (cells R) refl
-    (λ f X _ e. cond-cases (λ (Z : List ℕ). length Z ≡ length B) (filled R (at (width R) F f))
-    (λ _. cond-cases (λ (Z : List ℕ). length Z ≡ length B) (wins R (made R F a f) (at (width R) X (cell R (cand R F a f)))) (λ _. put-length (width R) X (cell R (cand R F a f)) (made R F a f) ∙ e) (λ _. e))
-    (λ _. e))
+    upTo-keeps (tryCell R F a) (λ _ (X : List ℕ). length X ≡ length B) B (cells R) refl (λ f X _ e. tryCell-length R F a f X ∙ e)
 
 pub nodeBlock-length : (R : Req) (F : ℕ → List ℕ) (v : ℕ) (B : List ℕ) → length (nodeBlock R F v B) ≡ length B
 unfolding nodeBlock nodeArc

@@ -2,8 +2,8 @@
 use Prim.Native.Nat.{ℕ, zero, suc, _+_, _-_, _*_, _/_, _≤_, _<_}
 use mathlib.Core.Path.{_≡_, refl, sym, ap, _∙_, subst}
 use mathlib.Core.Logic.{_≢_, ⊎-elim}
-use mathlib.Core.List.{List, [], _∷_, _++_}
-use native.Mathlib.Nat.{mul-le-mul-right, div-mul-le-self, le-refl, le-step, suc-mul, zero-mul, not-suc-le-zero, eq-or-lt-of-le, le-of-suc-le-suc}
+use mathlib.Core.List.{List, [], _∷_, _++_, append-assoc, append-nil}
+use native.Mathlib.Nat.{mul-le-mul-right, div-mul-le-self, le-refl, le-step, suc-mul, zero-mul, add-zero, add-suc, not-suc-le-zero, eq-or-lt-of-le, le-of-suc-le-suc}
 use native.Mathlib.Decide.{ℕ-discrete, decLt}
 use native.Mathlib.Omega.{arith}
 use lib.ListN.{length, getD, take, drop, length-append, length-drop}
@@ -129,3 +129,22 @@ join-part f g h (suc n) k l =
 pub join-ext : (f g : ℕ → List ℕ) (n : ℕ) → ((k : ℕ) → k < n → f k ≡ g k) → join f n ≡ join g n
 unfolding join
 join-ext f g n h = upTo-ext (λ k xs. xs ++ f k) (λ k xs. xs ++ g k) [] n (λ k xs l. ap (λ (y : List ℕ). xs ++ y) (h k l))
+
+-- ---- pieces of pieces
+
+-- the first a pieces, and b more
+pub join-add : (f : ℕ → List ℕ) (a b : ℕ) → join f (a + b) ≡ join f a ++ join (λ k. f (a + k)) b
+join-add f a zero = ap (join f) (add-zero a) ∙ sym (ap (λ (x : List ℕ). join f a ++ x) (join-zero (λ k. f (a + k))) ∙ append-nil (join f a))
+join-add f a (suc b) =
+    ap (join f) (add-suc a b) ∙ join-suc f (a + b)
+    ∙ ap (λ (x : List ℕ). x ++ f (a + b)) (join-add f a b)
+    ∙ append-assoc (join f a) (join (λ k. f (a + k)) b) (f (a + b))
+    ∙ ap (λ (x : List ℕ). join f a ++ x) (sym (join-suc (λ k. f (a + k)) b))
+
+-- n times m pieces, in n groups of m
+pub join-join : (f : ℕ → List ℕ) (m n : ℕ) → join (λ v. join (λ c. f (v * m + c)) m) n ≡ join f (n * m)
+join-join f m zero = join-zero _ ∙ sym (ap (join f) (zero-mul m) ∙ join-zero f)
+join-join f m (suc n) =
+    join-suc (λ v. join (λ c. f (v * m + c)) m) n
+    ∙ ap (λ (x : List ℕ). x ++ join (λ c. f (n * m + c)) m) (join-join f m n)
+    ∙ sym (ap (join f) (suc-mul n m) ∙ join-add f (n * m) m)

@@ -79,6 +79,11 @@ part-write-same (x ∷ xs) (suc a) ys h = part-write-same xs a ys (omega arith)
 part-write-same (x ∷ xs) zero [] h = refl
 part-write-same (x ∷ xs) zero (y ∷ ys) h = ap (λ (r : List ℕ). y ∷ r) (part-write-same xs zero ys (omega arith))
 
+-- a part of what was written
+pub part-write-inside : (xs : List ℕ) (a : ℕ) (ys : List ℕ) (b n : ℕ) → a + length ys ≤ length xs → b + n ≤ length ys → part (write xs a ys) (a + b) n ≡ part ys b n
+part-write-inside xs a ys b n h l =
+    sym (part-part (write xs a ys) a (length ys) b n l) ∙ ap (λ (zs : List ℕ). part zs b n) (part-write-same xs a ys h)
+
 -- a part before it
 pub part-write-below : (xs : List ℕ) (a : ℕ) (ys : List ℕ) (b n : ℕ) → b + n ≤ a → part (write xs a ys) b n ≡ part xs b n
 unfolding write

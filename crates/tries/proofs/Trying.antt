@@ -21,9 +21,9 @@ use Rattle.rounds.specs.Label.{label, sum, costs, step, filled, candidate, came
 use Rattle.rounds.specs.Rounds.{span, offer, tryCell, bit}
 use Rattle.rounds.proofs.Labels.{getD-sum, candidate-length, came-length, came-costs, cost-word}
 use Rattle.labels.specs.Words.{winsOver, Found-at}
-use Rattle.table.specs.declared.Frame.{Frame}
-use Rattle.table.specs.Frame.{offered, extended, Sized, Extends, Framed, Room, Apart, Hinted}
-use Rattle.table.proofs.Frames.{width-is, span-is, label-is, arc-is, volume-is, can-seek, cell-is, found-hints}
+use Rattle.tries.specs.declared.Frame.{Frame}
+use Rattle.tries.specs.Frame.{offered, extended, Sized, Extends, Framed, Room, Apart, Hinted}
+use Rattle.tries.proofs.Frames.{width-is, span-is, label-is, arc-is, volume-is, can-seek, cell-is, found-hints}
 
 -- ---- on words, and as defined
 

@@ -7,12 +7,12 @@ use lib.Seq.{length-take-le, take-at}
 use Rattle.words.specs.Pieces.{part, write}
 use Rattle.words.proofs.Writes.{length-part}
 use Rattle.labels.specs.Words.{Seeks, Found-at}
-use Rattle.table.specs.Frame.{offered, extended}
-use Rattle.table.proofs.Offering.{made-law}
+use Rattle.tries.specs.Frame.{offered, extended}
+use Rattle.tries.proofs.Offering.{made-law}
 use borrow.Author.Needs.{needs}
 use native.Mathlib.Omega.{arith}
-use Rattle.table.proofs.extend.Statement.{statement}
-use Rattle.table.proofs.extend.Tie as tie
+use Rattle.tries.proofs.extend.Statement.{statement}
+use Rattle.tries.proofs.extend.Tie as tie
 
 add-end : tie.Need-add-end
 add-end c =

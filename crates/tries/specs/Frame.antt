@@ -13,7 +13,7 @@ use Rattle.request.specs.Accepted.{Regular, Small, Fits}
 use Rattle.rounds.specs.Label.{label, sum, costs, filled}
 use Rattle.rounds.specs.Rounds.{span}
 use Rattle.labels.specs.Words.{winsOver, Seeks}
-use Rattle.table.specs.declared.Frame.{Frame}
+use Rattle.tries.specs.declared.Frame.{Frame}
 
 -- the sizes fit together
 pub record Sized (s : Frame) : Type 0 where

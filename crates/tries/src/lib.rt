@@ -1,32 +1,30 @@
-// The label table: layer 0, the rounds, and the build that checks a request and draws its table up in the lent buffers.
+// The tries of one arc: each filled label of the tail's block, extended and offered to the head's block.
 use labels::Found;
 use labels::add_costs;
 use labels::find_cell;
-use labels::keep;
 use labels::place;
 use request::Request;
 ghost use mathlib.Core.Path.{_≡_};
-ghost use mathlib.Core.Bool.{cond};
 ghost use Prim.Native.Nat.{ℕ, _+_, _-_, _*_, _≤_, _<_};
 ghost use lib.ListN.{length, getD};
-ghost use Rattle.words.specs.Pieces.{part, at, put, write, join};
+ghost use Rattle.words.specs.Pieces.{part, at, write};
 ghost use Rattle.request.specs.Request.{asked, width, arcCount};
 ghost use Rattle.request.specs.Shape.{cells};
-ghost use Rattle.labels.specs.Words.{winsOver, keepWords, Seeks, Found-at};
+ghost use Rattle.labels.specs.Words.{Seeks, Found-at};
 ghost use Rattle.rounds.specs.Label.{filled};
 ghost use Rattle.rounds.specs.Rounds.{span, bit, filledIn, tryCell, tryArc};
 ghost use Rattle.words.specs.Radix.{volume};
-ghost use Rattle.table.specs.Frame.{offered, extended, Sized, Extends, Framed, Apart, Hinted};
+ghost use Rattle.tries.specs.Frame.{offered, extended, Sized, Extends, Framed, Apart, Hinted};
 
 // The sizes that the loops go by, worked out once: the request, its criteria, the words of a label, the cells of a node,
 // the words of a node's block, the bucket counts.
-struct Frame {
-    request: Request,
-    d: usize,
-    w: usize,
-    cells: usize,
-    span: usize,
-    counts: [usize; 2],
+pub struct Frame {
+    pub request: Request,
+    pub d: usize,
+    pub w: usize,
+    pub cells: usize,
+    pub span: usize,
+    pub counts: [usize; 2],
 }
 
 // What goes along an arc from try to try: the places last found, from which the next are looked for, and the tries so far.
@@ -139,4 +137,31 @@ fn try_cell(
         places,
         tries: going.tries + 1,
     }
+}
+
+// Every filled cell of the tail's block, at `from`, tried by arc a into the head's block, at `to`: how many tries.
+pub fn try_arc(
+    labels: &mut [u32],
+    arcs: &[u32],
+    ladders: &[u32],
+    s: Frame,
+    from: usize,
+    to: usize,
+    a: usize,
+) -> u64
+    requires { ⌜ Framed (asked (s .request) (now arcs)) s (now ladders) ⌝ }
+    requires { ⌜ Apart (asked (s .request) (now arcs)) (now labels) from to ⌝ }
+    requires { ⌜ a < arcCount (asked (s .request) (now arcs)) ⌝ }
+    ensures { λ _. ⌜ now (labels .exit) ≡ write (now (labels .entry)) to (tryArc (asked (s .request) (now (arcs .entry))) (part (now (labels .entry)) from (span (asked (s .request) (now (arcs .entry))))) a (part (now (labels .entry)) to (span (asked (s .request) (now (arcs .entry)))))) ⌝ }
+    ensures { λ r. ⌜ r ≡ filledIn (asked (s .request) (now (arcs .entry))) (part (now (labels .entry)) from (span (asked (s .request) (now (arcs .entry))))) ⌝ }
+{
+    let cells = s.cells;
+    let places = [0usize; 2];
+    let mut going = Going { places, tries: 0 };
+    let mut c = 0;
+    while c < cells {
+        going = try_cell(labels, arcs, ladders, s, from, to, a, c, going);
+        c += 1;
+    }
+    going.tries
 }

@@ -4,11 +4,11 @@ use Prim.Native.Nat.{ℕ, _+_, _-_, _*_, _≤_, _<_}
 use mathlib.Core.List.{List}
 use lib.ListN.{length}
 use Rattle.words.proofs.Writes.{length-part}
-use Rattle.table.proofs.Offering.{offer-law}
+use Rattle.tries.proofs.Offering.{offer-law}
 use borrow.Author.Needs.{needs}
 use native.Mathlib.Omega.{arith}
-use Rattle.table.proofs.offer.Statement.{statement}
-use Rattle.table.proofs.offer.Tie as tie
+use Rattle.tries.proofs.offer.Statement.{statement}
+use Rattle.tries.proofs.offer.Tie as tie
 
 label-at-requires : tie.Need-label-at-requires
 label-at-requires c κs = search needs

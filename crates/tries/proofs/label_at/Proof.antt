@@ -4,8 +4,8 @@ use Prim.Native.Nat.{ℕ, _+_, _*_, _≤_, _<_}
 use Rattle.words.proofs.Pieces.{piece-end}
 use borrow.Author.Needs.{needs}
 use native.Mathlib.Omega.{arith}
-use Rattle.table.proofs.label_at.Statement.{statement}
-use Rattle.table.proofs.label_at.Tie as tie
+use Rattle.tries.proofs.label_at.Statement.{statement}
+use Rattle.tries.proofs.label_at.Tie as tie
 
 mul-result : tie.Need-mul-result
 mul-result c = let a = c .before .args in let p = c .before .pre in let h = piece-end (a .s .w) (a .s .cells) (a .c) (p .1) in let e = p .0 .whole in let m = p .0 .small in omega arith

@@ -19,8 +19,8 @@ use Rattle.request.specs.Shape.{buckets, cells, cell, position, top, largest, l
 use Rattle.request.proofs.Ladders.{ladders-length, ladders-part, ladder-inside, in-ladder, place-position}
 use Rattle.rounds.specs.Rounds.{span}
 use Rattle.labels.specs.Words.{offset, ladderIn, Seeks, Found-at}
-use Rattle.table.specs.declared.Frame.{Frame}
-use Rattle.table.specs.Frame.{Framed, Hinted}
+use Rattle.tries.specs.declared.Frame.{Frame}
+use Rattle.tries.specs.Frame.{Framed, Hinted}
 
 module _ (R : Req) (s : Frame) (buffer : List ℕ) (f : Framed R s buffer) where
   pub width-is : s .w ≡ width R

@@ -5,8 +5,8 @@ use lib.ListN.{getD}
 use Rattle.words.proofs.Radix.{radix-lt}
 use borrow.Author.Needs.{needs}
 use native.Mathlib.Omega.{arith}
-use Rattle.table.proofs.offer_found.Statement.{statement}
-use Rattle.table.proofs.offer_found.Tie as tie
+use Rattle.tries.proofs.offer_found.Statement.{statement}
+use Rattle.tries.proofs.offer_found.Tie as tie
 
 sub-find-cell : tie.Need-sub-find-cell
 sub-find-cell c = let n = c .before .before .before .before .before .pre .0 .some in omega arith

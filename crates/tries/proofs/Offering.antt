@@ -10,7 +10,7 @@ use Rattle.words.proofs.Choices.{cond-cases}
 use Rattle.words.proofs.Writes.{length-part, part-part, lent-in, length-write}
 use Rattle.labels.specs.Words.{winsOver}
 use Rattle.rounds.specs.Label.{label, sum}
-use Rattle.table.specs.Frame.{offered, extended}
+use Rattle.tries.specs.Frame.{offered, extended}
 
 -- what `place` leaves, from its part of the words
 pub offer-law : (d : ℕ) (cand ls ys : List ℕ) (to span cell r k : ℕ) → r ≡ cell * (d + 2) → r + (d + 2) ≤ span → to + span ≤ length ls → length cand ≡ d + 2 → k ≡ d + 2

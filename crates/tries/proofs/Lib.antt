@@ -1,3 +1,4 @@
 pub mod Offering
 pub mod Frames
 pub mod Trying
+pub mod Arcs

@@ -3,12 +3,12 @@ use mathlib.Core.Path.{_≡_, refl, sym, ap, _∙_}
 use Prim.Native.Nat.{ℕ, _+_, _-_, _*_, _≤_, _<_}
 use lib.ListN.{length}
 use Rattle.request.specs.Request.{asked}
-use Rattle.table.proofs.Frames.{span-is}
-use Rattle.table.proofs.Trying.{empty-try, empty-bit, filled-bit, can-extend, filled-hints, filled-try}
+use Rattle.tries.proofs.Frames.{span-is}
+use Rattle.tries.proofs.Trying.{empty-try, empty-bit, filled-bit, can-extend, filled-hints, filled-try}
 use borrow.Author.Needs.{needs}
 use native.Mathlib.Omega.{arith}
-use Rattle.table.proofs.try_cell.Statement.{statement}
-use Rattle.table.proofs.try_cell.Tie as tie
+use Rattle.tries.proofs.try_cell.Statement.{statement}
+use Rattle.tries.proofs.try_cell.Tie as tie
 
 label-at-requires : tie.Need-label-at-requires
 label-at-requires c κs =
