@@ -8,7 +8,7 @@ use Rattle.words.specs.Loops.{total}
 use Rattle.words.specs.Pieces.{part, write, join}
 use Rattle.words.proofs.Loops.{total-next, total-mono}
 use Rattle.words.proofs.Pieces.{join-next, join-total}
-use Rattle.words.proofs.Writes.{length-part, length-write, lent, write-append}
+use Rattle.words.proofs.Writes.{length-part, length-write, lent-behind}
 use Rattle.fences.specs.Fence.{fences}
 use Rattle.fences.proofs.Ladders.{fences-length}
 
@@ -40,9 +40,6 @@ module _ (ratios counts : List ℕ) where
       let new : ys ≡ ladderOf j = e-ys ∙ ap (fences (getD ratios (j * 2) 0) (getD ratios (j * 2 + 1) 0)) (size ∙ e-k) in
       let long : length ys ≡ k = ap length new ∙ fences-length (getD ratios (j * 2) 0) (getD ratios (j * 2 + 1) 0) (getD counts j 0 + 1) ∙ sym e-k in
       let place : at ≡ 0 + length (join ladderOf j) = omega (arith, ladders-long j) in
-      lent xs at k ys long (rw same room)
-      ∙ ap (λ (l : List ℕ). write l at ys) e
-      ∙ ap (λ (n : ℕ). write (write xs₀ 0 (join ladderOf j)) n ys) place
-      ∙ write-append xs₀ 0 (join ladderOf j) ys
+      lent-behind xs₀ xs (join ladderOf j) ys 0 at k e place room long
       ∙ ap (λ (l : List ℕ). write xs₀ 0 (join ladderOf j ++ l)) new
       ∙ ap (write xs₀ 0) (sym (join-next ladderOf j))

@@ -156,6 +156,16 @@ write-append (x ∷ xs) zero [] zs = refl
 write-append (x ∷ xs) zero (y ∷ ys) zs =
     ap (λ (k : ℕ). write (y ∷ write xs zero ys) k zs) (zero-add (suc (length ys)) ∙ ap suc (sym (zero-add (length ys)))) ∙ ap (λ (r : List ℕ). y ∷ r) (write-append xs zero ys zs)
 
+-- a part lent right behind a write, as one longer write
+pub lent-behind : (xs₀ xs front ys : List ℕ) (b at k : ℕ) → xs ≡ write xs₀ b front → at ≡ b + length front → at + k ≤ length xs₀ → length ys ≡ k
+    → take at xs ++ (ys ++ drop k (drop at xs)) ≡ write xs₀ b (front ++ ys)
+lent-behind xs₀ xs front ys b at k e e-at room size =
+    let same : length xs ≡ length xs₀ = ap length e ∙ length-write xs₀ b front in
+    lent xs at k ys size (rw same room)
+    ∙ ap (λ (l : List ℕ). write l at ys) e
+    ∙ ap (λ (n : ℕ). write (write xs₀ b front) n ys) e-at
+    ∙ write-append xs₀ b front ys
+
 -- the store of a turn that fills a list from the front
 pub front-more : (xs d : List ℕ) (i v : ℕ) → length xs ≡ i → i < length d → set (xs ++ drop i d) i v ≡ (xs ++ (v ∷ [])) ++ drop (i + 1) d
 front-more xs d i v e h = rw (drop-cons d i 0 h, set-at xs (getD d i 0) (drop (suc i) d) v i e, add-one, append-assoc xs (v ∷ []) (drop (suc i) d))

@@ -1,0 +1,189 @@
+-- A round from the words of one layer, and all layers one after another. Assumes nothing.
+use Prim.Native.Nat.{ℕ, zero, suc, _+_, _-_, _*_, _≤_, _<_, zero-le}
+use mathlib.Core.Path.{_≡_, refl, sym, ap, ap₂, _∙_, subst}
+use mathlib.Core.List.{List, _++_}
+use native.Mathlib.Nat.{mul-assoc, zero-mul, one-mul, add-mul, le-trans, le-of-eq, zero-add, mul-le-mul-right}
+use native.Mathlib.Numerals.{add-one}
+use native.Mathlib.Omega.{arith}
+use lib.ListN.{length, getD}
+use lib.Dec.{T}
+use Rattle.words.specs.Loops.{upTo, total}
+use Rattle.words.specs.Pieces.{part, at, write, join}
+use Rattle.words.proofs.Loops.{total-next}
+use Rattle.words.proofs.Pieces.{join-next, join-suc, join-zero, join-length, join-at, piece-end}
+use Rattle.words.proofs.Writes.{length-part, length-write, part-write-same, part-write-below, part-write-inside, write-part, write-over, write-append}
+use Rattle.request.specs.Request.{Req, width, arcCount, reach}
+use Rattle.request.specs.Shape.{cells, largest, top}
+use Rattle.request.specs.Accepted.{Regular}
+use Rattle.rounds.specs.Label.{costs, filled}
+use Rattle.rounds.specs.Rounds.{span, block, keepAll, arcStep, round, roundTries, startLayer, layer, table, tries, labelOf, labelAt}
+use Rattle.rounds.proofs.Round.{keepAll-length, round-length, layer-length}
+use Rattle.rounds.proofs.Start.{startLayer-length}
+use Rattle.rounds.proofs.Costs.{layer-costs, room-for-arc}
+use Rattle.tries.specs.Frame.{Room}
+use Rattle.table.specs.Build.{Layered}
+use Rattle.table.proofs.Passing.{layerWords}
+
+-- ---- one round
+
+module _ (R : Req) (ok : Regular R) (xs : List ℕ) (prev base : ℕ) (p : Layered R xs prev base) where
+  abbrev L : List ℕ
+  L = part xs prev (layerWords R)
+
+  long : length (part xs prev (layerWords R)) ≡ layerWords R
+  long = let b = p .below in let i = p .inside in length-part xs prev (layerWords R) (omega arith)
+
+  -- keeping and then passing the arcs is the round
+  pub round-law : (ls ls′ : List ℕ) → ls ≡ write xs base (keepAll R (part xs prev (layerWords R)))
+      → ls′ ≡ write ls base (upTo (arcStep R (part ls prev (layerWords R))) (part ls base (layerWords R)) (arcCount R)) → ls′ ≡ write xs base (round R (part xs prev (layerWords R)))
+  unfolding round
+  round-law ls ls′ e e′ =
+      let K : List ℕ = keepAll R L in
+      let size : length K ≡ layerWords R = keepAll-length R ok L long in
+      let i = p .inside in
+      let before : part ls prev (layerWords R) ≡ L = ap (λ (l : List ℕ). part l prev (layerWords R)) e ∙ part-write-below xs base K prev (layerWords R) (p .below) in
+      let here : part ls base (layerWords R) ≡ K = ap (λ (l : List ℕ). part l base (layerWords R)) e ∙ ap (part (write xs base K) base) (sym size) ∙ part-write-same xs base K (omega arith) in
+      e′
+      ∙ ap₂ (λ (X Y : List ℕ). write ls base (upTo (arcStep R X) Y (arcCount R))) before here
+      ∙ ap (λ (l : List ℕ). write l base (round R L)) e
+      ∙ write-over xs base K (round R L) (le-of-eq (size ∙ sym (round-length R ok L long)))
+
+  -- its tries are those of the layer before
+  pub round-tries : (ls : List ℕ) → ls ≡ write xs base (keepAll R (part xs prev (layerWords R))) → roundTries R (part ls prev (layerWords R)) ≡ roundTries R (part xs prev (layerWords R))
+  round-tries ls e = ap (roundTries R) (ap (λ (l : List ℕ). part l prev (layerWords R)) e ∙ part-write-below xs base (keepAll R L) prev (layerWords R) (p .below))
+
+-- ---- all layers
+
+layer-next : (R : Req) (i : ℕ) → layer R (i + 1) ≡ round R (layer R i)
+unfolding layer
+layer-next R i = ap (layer R) (add-one i)
+
+module _ (R : Req) where
+  -- layers 0 to i stand at the front
+  pub record Drawn (xs ls : List ℕ) (base tried i : ℕ) : Type 0 where
+    pub inside : i ≤ R .hops
+    pub begins : base ≡ i * layerWords R
+    pub words : ls ≡ write xs 0 (join (layer R) (i + 1))
+    pub count : tried ≡ tries R i
+
+  pub table-length : Regular R → length (table R) ≡ (R .hops + 1) * layerWords R
+  unfolding table
+  table-length ok = join-length (layerWords R) (layer R) (R .hops + 1) (λ i _. layer-length R ok i)
+
+  layers-length : Regular R → (n : ℕ) → length (join (layer R) n) ≡ n * layerWords R
+  layers-length ok n = join-length (layerWords R) (layer R) n (λ i _. layer-length R ok i)
+
+  first-layer : join (layer R) 1 ≡ startLayer R
+  unfolding layer
+  first-layer = join-suc (layer R) 0 ∙ ap (λ (x : List ℕ). x ++ layer R 0) (join-zero (layer R))
+
+  -- layer 0 alone
+  pub first-drawn : (xs : List ℕ) → part xs 0 (layerWords R) ≡ startLayer R → Drawn xs xs 0 0 0
+  unfolding tries total upTo
+  first-drawn xs e = record {
+    inside = zero-le;
+    begins = sym (zero-mul (layerWords R));
+    words = sym (ap (write xs 0) (first-layer ∙ sym e) ∙ write-part xs 0 (layerWords R));
+    count = refl;
+  }
+
+  module _ (ok : Regular R) (xs ls : List ℕ) (base tried i : ℕ) (g : Drawn xs ls base tried i) (room : length (table R) ≤ length xs) where
+    pub drawn-length : length ls ≡ length xs
+    drawn-length = ap length (g .words) ∙ length-write xs 0 (join (layer R) (i + 1))
+
+    module _ (l : i < R .hops) where
+      -- the layers so far, and the next, lie within the buffer
+      pub ends : base + layerWords R + layerWords R ≤ length xs
+      ends =
+          let t = table-length ok in
+          let b = g .begins in
+          let m : (i + 1 + 1) * layerWords R ≤ (R .hops + 1) * layerWords R = mul-le-mul-right (layerWords R) (omega arith) in
+          let x = add-mul (i + 1) 1 (layerWords R) in
+          let y = add-mul i 1 (layerWords R) in
+          let z = one-mul (layerWords R) in
+          omega arith
+
+      front : length (join (layer R) (i + 1)) ≡ base + layerWords R
+      front =
+          let n = layers-length ok (i + 1) in
+          let b = g .begins in
+          let y = add-mul i 1 (layerWords R) in
+          let z = one-mul (layerWords R) in
+          omega arith
+
+      -- layer i stands at `base`
+      pub layer-at : part ls base (layerWords R) ≡ layer R i
+      unfolding at
+      layer-at =
+          let f = front in
+          let e = ends in
+          let z : base ≡ 0 + base = omega arith in
+          ap (λ (x : List ℕ). part x base (layerWords R)) (g .words)
+          ∙ ap (λ (b : ℕ). part (write xs 0 (join (layer R) (i + 1))) b (layerWords R)) z
+          ∙ part-write-inside xs 0 (join (layer R) (i + 1)) base (layerWords R) (omega arith) (omega arith)
+          ∙ ap (λ (b : ℕ). part (join (layer R) (i + 1)) b (layerWords R)) (g .begins)
+          ∙ join-at (layerWords R) (layer R) (i + 1) (λ k _. layer-length R ok k) i (omega arith)
+
+      -- and leaves room for one arc more
+      pub next-layered : Layered R ls base (base + layerWords R)
+      unfolding Room reach labelAt labelOf
+      next-layered =
+          let e = ends in
+          let d = drawn-length in
+          record {
+            below = omega arith;
+            inside = omega arith;
+            rooms = λ v hv. subst (λ (X : List ℕ). Room R (block R X v)) (sym layer-at)
+                (λ c hc t j. room-for-arc R i (costs R (labelAt R i v c)) l (layer-costs R ok i v c hv hc t) j);
+          }
+
+      -- layer i + 1 joins them
+      pub next-drawn : (ls′ : List ℕ) (n : ℕ) → ls′ ≡ write ls (base + layerWords R) (round R (part ls base (layerWords R))) → n ≡ roundTries R (part ls base (layerWords R))
+          → Drawn xs ls′ (base + layerWords R) (tried + n) (i + 1)
+      unfolding tries
+      next-drawn ls′ n e e-n =
+          let f = front in
+          let b = g .begins in
+          let y = add-mul i 1 (layerWords R) in
+          let z = one-mul (layerWords R) in
+          let place : base + layerWords R ≡ 0 + length (join (layer R) (i + 1)) = omega arith in
+          let new : round R (part ls base (layerWords R)) ≡ layer R (i + 1) = ap (round R) layer-at ∙ sym (layer-next R i) in
+          let k = g .count in
+          let s = total-next (λ k. roundTries R (layer R k)) i in
+          let r = e-n ∙ ap (roundTries R) layer-at in
+          record {
+            inside = omega arith;
+            begins = omega arith;
+            words =
+                e ∙ ap₂ (λ (x : List ℕ) (y : List ℕ). write x (base + layerWords R) y) (g .words) new
+                ∙ ap (λ (b : ℕ). write (write xs 0 (join (layer R) (i + 1))) b (layer R (i + 1))) place
+                ∙ write-append xs 0 (join (layer R) (i + 1)) (layer R (i + 1))
+                ∙ ap (write xs 0) (sym (join-next (layer R) (i + 1)));
+            count = omega arith;
+          }
+
+  -- all of them
+  pub all-drawn : (xs ls : List ℕ) (base tried i : ℕ) → Drawn xs ls base tried i → i ≡ R .hops → (ls ≡ write xs 0 (table R)) × (tried ≡ tries R (R .hops))
+  unfolding table
+  all-drawn xs ls base tried i g e = (g .words ∙ ap (λ (n : ℕ). write xs 0 (join (layer R) (n + 1))) e, g .count ∙ ap (tries R) e)
+
+  -- layer 0 first, and then over it the whole table
+  module _ (ok : Regular R) (xs ls : List ℕ) (e : ls ≡ write xs 0 (startLayer R)) (room : length (table R) ≤ length xs) where
+    one-layer : layerWords R ≤ length (table R)
+    one-layer =
+        let t = table-length ok in
+        let m : 1 * layerWords R ≤ (R .hops + 1) * layerWords R = mul-le-mul-right (layerWords R) (omega arith) in
+        let o = one-mul (layerWords R) in
+        omega arith
+
+    pub start-stands : part ls 0 (layerWords R) ≡ startLayer R
+    start-stands =
+        let n = startLayer-length R in
+        let l = one-layer in
+        ap (λ (x : List ℕ). part x 0 (layerWords R)) e ∙ ap (part (write xs 0 (startLayer R)) 0) (sym n) ∙ part-write-same xs 0 (startLayer R) (omega arith)
+
+    pub over-start : write ls 0 (table R) ≡ write xs 0 (table R)
+    over-start =
+        let n = startLayer-length R in
+        let l = one-layer in
+        ap (λ (x : List ℕ). write x 0 (table R)) e ∙ write-over xs 0 (startLayer R) (table R) (omega arith)

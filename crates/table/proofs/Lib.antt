@@ -1,0 +1,4 @@
+pub mod Starting
+pub mod Keeping
+pub mod Passing
+pub mod Layers

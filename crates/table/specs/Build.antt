@@ -1,0 +1,52 @@
+-- The build: its refusals in document 01's order, its answer, and every word of its two lent buffers. Assumes nothing.
+use Prim.Native.Nat.{ℕ, _+_, _*_, _≤_, _<_}
+use mathlib.Core.Bool.{Bool, cond}
+use mathlib.Core.List.{List, [], _∷_, _++_}
+use lib.ListN.{length, set, replicate}
+use lib.Dec.{ltb}
+use Rattle.words.specs.Pieces.{part, write}
+use Rattle.words.specs.Rows.{Row, Weighed, clear, refused, weigh, settle}
+use Rattle.request.specs.Request.{Req, width}
+use Rattle.request.specs.Shape.{ladders, labelCount}
+use Rattle.request.specs.Rows.{rows}
+use Rattle.request.specs.declared.Refusal.{Refusal}
+use Rattle.rounds.specs.Rounds.{span, block, table, tries}
+use Rattle.tries.specs.Frame.{Room}
+use Rattle.table.specs.declared.Built.{Built}
+use Rattle.table.specs.declared.Built.the-variants as built
+
+-- "Build: 2 to 10, 13 (1 ladders, 2 labels)": of a request and two buffers of so many words
+unfoldable pub buildRows : Req → ℕ → ℕ → List Row
+buildRows R ladderRoom labelRoom =
+    rows R
+    ++ record { number = 13; holds = ltb ladderRoom (length (ladders R)); place = 1 }
+    ∷ record { number = 13; holds = ltb labelRoom (labelCount R * width R); place = 2 }
+    ∷ []
+
+-- "The answer reports the sum of all tries", or number and place
+abbrev pub answer : Weighed → ℕ → Built
+answer clear n = built.Tries n
+answer (refused n p) t = built.Refused (record { number = n; place = p })
+
+unfoldable pub builtOf : Req → ℕ → ℕ → Built
+builtOf R ladderRoom labelRoom = answer (weigh (buildRows R ladderRoom labelRoom)) (tries R (R .hops))
+
+-- the ladders after the build: those of the request in front, what lies beyond as it was; all as it was on a refusal
+unfoldable pub laddersAfter : Req → List ℕ → ℕ → List ℕ
+laddersAfter R buffer labelRoom = settle (weigh (buildRows R (length buffer) labelRoom)) (write buffer 0 (ladders R)) buffer
+
+-- the labels after the build: layers 0 to K in front, what lies beyond as it was; all as it was on a refusal
+unfoldable pub labelsAfter : Req → ℕ → List ℕ → List ℕ
+labelsAfter R ladderRoom labels = settle (weigh (buildRows R ladderRoom (length labels))) (write labels 0 (table R)) labels
+
+-- ---- what the loops ask
+
+-- a block of so many words, with a start in its cell 0 or without
+unfoldable pub startWords : ℕ → ℕ → Bool → List ℕ
+startWords n d here = cond here (set (replicate n 0) d 1) (replicate n 0)
+
+-- the layer before ends at or before the layer that is written begins, and leaves room for one arc more
+pub record Layered (R : Req) (labels : List ℕ) (prev base : ℕ) : Type 0 where
+  pub below : prev + R .nodes * span R ≤ base
+  pub inside : base + R .nodes * span R ≤ length labels
+  pub rooms : (v : ℕ) → v < R .nodes → Room R (block R (part labels prev (R .nodes * span R)) v)

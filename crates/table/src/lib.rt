@@ -1,0 +1,161 @@
+// The label table: layer 0, the rounds, and the build that checks a request and draws its table up in the lent buffers.
+use labels::keep;
+use request::Checked;
+use request::Refusal;
+use request::Request;
+use request::Shape;
+use request::check;
+use request::fill_ladders;
+use tries::Frame;
+use tries::try_arc;
+use words::clear;
+ghost use mathlib.Core.Path.{_≡_};
+ghost use mathlib.Core.Bool.{cond};
+ghost use Prim.Native.Nat.{ℕ, _+_, _*_, _≤_, _<_};
+ghost use lib.ListN.{length, set, replicate};
+ghost use lib.Dec.{eqb};
+ghost use Rattle.words.specs.Loops.{upTo};
+ghost use Rattle.words.specs.Pieces.{part, at, write, join};
+ghost use Rattle.request.specs.Request.{asked, arcCount};
+ghost use Rattle.labels.specs.Words.{keepWords};
+ghost use Rattle.rounds.specs.Rounds.{span, startLayer, arcStep, round, roundTries, table, tries};
+ghost use Rattle.tries.specs.Frame.{Framed};
+ghost use Rattle.table.specs.Build.{startWords, Layered, builtOf, laddersAfter, labelsAfter};
+
+// How many tries the rounds made, or the first refusal.
+pub enum Built {
+    Tries(u64),
+    Refused(Refusal),
+}
+
+// Where a node's block begins in a layer.
+fn block_at(s: Frame, v: usize) -> usize
+    requires { ⌜ (v ≤ 64) × (s .span ≤ 6000000) ⌝ }
+    ensures { λ r. ⌜ r ≡ v * s .span ⌝ }
+{
+    v * s.span
+}
+
+// A block of empty labels, or with a start in its cell 0.
+fn start_block(block: &mut [u32], d: usize, here: bool)
+    requires { ⌜ d < length (now block) ⌝ }
+    ensures { λ _. ⌜ now (block .exit) ≡ startWords (length (now (block .entry))) d here ⌝ }
+{
+    clear(block);
+    if here {
+        block[d] = 1;
+    }
+}
+
+// Layer 0, at the front of the labels: n blocks of `span` words.
+fn start_layer(labels: &mut [u32], n: usize, source: usize, d: usize, span: usize)
+    requires { ⌜ (n * span ≤ length (now labels)) × (d < span) ⌝ }
+    ensures { λ _. ⌜ now (labels .exit) ≡ write (now (labels .entry)) 0 (join (λ v. startWords span d (eqb v source)) n) ⌝ }
+{
+    let mut at = 0;
+    let mut v = 0;
+    while v < n {
+        let end = at + span;
+        start_block(&mut labels[at..end], d, v == source);
+        at = end;
+        v += 1;
+    }
+}
+
+// Every filled label of the n at `prev`, kept at `base`; an empty one for each empty one.
+fn keep_layer(labels: &mut [u32], n: usize, d: usize, prev: usize, base: usize)
+    requires { ⌜ (prev + n * (d + 2) ≤ base) × (base + n * (d + 2) ≤ length (now labels)) × (d ≤ 3) ⌝ }
+    ensures { λ _. ⌜ now (labels .exit) ≡ write (now (labels .entry)) base (join (λ j. keepWords d (at (d + 2) (part (now (labels .entry)) prev (n * (d + 2))) j)) n) ⌝ }
+{
+    let w = d + 2;
+    let mut at = prev;
+    let mut to = base;
+    let mut j = 0;
+    while j < n {
+        keep(labels, at, to, d);
+        at += w;
+        to += w;
+        j += 1;
+    }
+}
+
+// All arcs, in table order, from the layer at `prev` into the layer at `base`: how many tries.
+fn try_arcs(
+    labels: &mut [u32],
+    arcs: &[u32],
+    ladders: &[u32],
+    s: Frame,
+    prev: usize,
+    base: usize,
+) -> u64
+    requires { ⌜ Framed (asked (s .request) (now arcs)) s (now ladders) ⌝ }
+    requires { ⌜ Layered (asked (s .request) (now arcs)) (now labels) prev base ⌝ }
+    ensures { λ _. ⌜ now (labels .exit) ≡ write (now (labels .entry)) base (upTo (arcStep (asked (s .request) (now (arcs .entry))) (part (now (labels .entry)) prev (s .request .nodes * span (asked (s .request) (now (arcs .entry)))))) (part (now (labels .entry)) base (s .request .nodes * span (asked (s .request) (now (arcs .entry))))) (arcCount (asked (s .request) (now (arcs .entry))))) ⌝ }
+    ensures { λ r. ⌜ r ≡ roundTries (asked (s .request) (now (arcs .entry))) (part (now (labels .entry)) prev (s .request .nodes * span (asked (s .request) (now (arcs .entry))))) ⌝ }
+{
+    let w = s.w;
+    let m = arcs.len() / w;
+    let mut tries: u64 = 0;
+    let mut a = 0;
+    while a < m {
+        let at = a * w;
+        let from = prev + block_at(s, arcs[at] as usize);
+        let to = base + block_at(s, arcs[at + 1] as usize);
+        tries += try_arc(labels, arcs, ladders, s, from, to, a);
+        a += 1;
+    }
+    tries
+}
+
+// One round: the layer at `base` becomes the round of the layer at `prev`.
+fn run_round(
+    labels: &mut [u32],
+    arcs: &[u32],
+    ladders: &[u32],
+    s: Frame,
+    prev: usize,
+    base: usize,
+) -> u64
+    requires { ⌜ Framed (asked (s .request) (now arcs)) s (now ladders) ⌝ }
+    requires { ⌜ Layered (asked (s .request) (now arcs)) (now labels) prev base ⌝ }
+    ensures { λ _. ⌜ now (labels .exit) ≡ write (now (labels .entry)) base (round (asked (s .request) (now (arcs .entry))) (part (now (labels .entry)) prev (s .request .nodes * span (asked (s .request) (now (arcs .entry)))))) ⌝ }
+    ensures { λ r. ⌜ r ≡ roundTries (asked (s .request) (now (arcs .entry))) (part (now (labels .entry)) prev (s .request .nodes * span (asked (s .request) (now (arcs .entry))))) ⌝ }
+{
+    let n = s.request.nodes as usize;
+    keep_layer(labels, n * s.cells, s.d, prev, base);
+    try_arcs(labels, arcs, ladders, s, prev, base)
+}
+
+// All rounds, from a layer 0 that stands at the front of the labels: how many tries.
+fn run_rounds(labels: &mut [u32], arcs: &[u32], ladders: &[u32], s: Frame) -> u64
+    requires { ⌜ Framed (asked (s .request) (now arcs)) s (now ladders) ⌝ }
+    requires { ⌜ (length (table (asked (s .request) (now arcs))) ≤ length (now labels)) × (part (now labels) 0 (s .request .nodes * span (asked (s .request) (now arcs))) ≡ startLayer (asked (s .request) (now arcs))) ⌝ }
+    ensures { λ _. ⌜ now (labels .exit) ≡ write (now (labels .entry)) 0 (table (asked (s .request) (now (arcs .entry)))) ⌝ }
+    ensures { λ r. ⌜ r ≡ tries (asked (s .request) (now (arcs .entry))) (s .request .hops) ⌝ }
+{
+    let hops = s.request.hops;
+    let layer = (s.request.nodes as usize) * s.span;
+    let mut base: usize = 0;
+    let mut tries: u64 = 0;
+    let mut i: u32 = 0;
+    while i < hops {
+        let next = base + layer;
+        tries += run_round(labels, arcs, ladders, s, base, next);
+        base = next;
+        i += 1;
+    }
+    tries
+}
+
+// Layer 0 and all rounds, at the front of the labels: how many tries.
+fn draw_up(labels: &mut [u32], arcs: &[u32], ladders: &[u32], s: Frame) -> u64
+    requires { ⌜ Framed (asked (s .request) (now arcs)) s (now ladders) ⌝ }
+    requires { ⌜ length (table (asked (s .request) (now arcs))) ≤ length (now labels) ⌝ }
+    ensures { λ _. ⌜ now (labels .exit) ≡ write (now (labels .entry)) 0 (table (asked (s .request) (now (arcs .entry)))) ⌝ }
+    ensures { λ r. ⌜ r ≡ tries (asked (s .request) (now (arcs .entry))) (s .request .hops) ⌝ }
+{
+    let n = s.request.nodes as usize;
+    let source = s.request.source as usize;
+    start_layer(labels, n, source, s.d, s.span);
+    run_rounds(labels, arcs, ladders, s)
+}
