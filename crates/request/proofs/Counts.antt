@@ -84,11 +84,11 @@ module _ (R : Req) where
 
   -- ---- the two counts of a shape
 
-  count-in : (j : ℕ) → j < R .graded → count R j ≡ buckets R j
+  pub count-in : (j : ℕ) → j < R .graded → count R j ≡ buckets R j
   unfolding count
   count-in j l = ap (λ (b : Bool). cond b (buckets R j) 1) (lt-ltb j (R .graded) l)
 
-  count-out : (j : ℕ) → R .graded ≤ j → count R j ≡ 1
+  pub count-out : (j : ℕ) → R .graded ≤ j → count R j ≡ 1
   unfolding count
   count-out j l = ap (λ (b : Bool). cond b (buckets R j) 1) (le-ltb j (R .graded) l)
 

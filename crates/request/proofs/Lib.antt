@@ -7,3 +7,4 @@ pub mod Stages
 pub mod Counts
 pub mod Cells
 pub mod Ladders
+pub mod Answers

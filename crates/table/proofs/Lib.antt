@@ -2,3 +2,4 @@ pub mod Starting
 pub mod Keeping
 pub mod Passing
 pub mod Layers
+pub mod Building

@@ -2,14 +2,18 @@
 use Prim.Native.Nat.{ℕ, _+_, _*_, _≤_, _<_}
 use mathlib.Core.Bool.{Bool, cond}
 use mathlib.Core.List.{List, [], _∷_, _++_}
-use lib.ListN.{length, set, replicate}
+use lib.ListN.{length, getD, set, replicate}
 use lib.Dec.{ltb}
+use Rattle.words.specs.Loops.{total}
 use Rattle.words.specs.Pieces.{part, write}
 use Rattle.words.specs.Rows.{Row, Weighed, clear, refused, weigh, settle}
 use Rattle.request.specs.Request.{Req, width}
 use Rattle.request.specs.Shape.{ladders, labelCount}
 use Rattle.request.specs.Rows.{rows}
 use Rattle.request.specs.declared.Refusal.{Refusal}
+use Rattle.request.specs.declared.Request.{Request}
+use Rattle.request.specs.declared.Shape.{Shape}
+use Rattle.tries.specs.declared.Frame.{Frame}
 use Rattle.rounds.specs.Rounds.{span, block, table, tries}
 use Rattle.tries.specs.Frame.{Room}
 use Rattle.table.specs.declared.Built.{Built}
@@ -40,6 +44,14 @@ unfoldable pub labelsAfter : Req → ℕ → List ℕ → List ℕ
 labelsAfter R ladderRoom labels = settle (weigh (buildRows R ladderRoom (length labels))) (write labels 0 (table R)) labels
 
 -- ---- what the loops ask
+
+-- the frame of a request with its shape
+unfoldable pub frameOf : Request → Shape → Frame
+frameOf q s = record { request = q; d = q .criteria; w = q .criteria + 2; cells = s .cells; span = s .cells * (q .criteria + 2); counts = s .b1 ∷ s .b2 ∷ [] }
+
+-- how many words the ladders of so many graded criteria take
+unfoldable pub ladderWords : ℕ → ℕ → ℕ → ℕ
+ladderWords b1 b2 graded = total (λ j. getD (b1 ∷ b2 ∷ []) j 0 + 1) graded
 
 -- a block of so many words, with a start in its cell 0 or without
 unfoldable pub startWords : ℕ → ℕ → Bool → List ℕ

@@ -11,16 +11,18 @@ use tries::try_arc;
 use words::clear;
 ghost use mathlib.Core.Path.{_≡_};
 ghost use mathlib.Core.Bool.{cond};
-ghost use Prim.Native.Nat.{ℕ, _+_, _*_, _≤_, _<_};
+ghost use Prim.Native.Nat.{ℕ, _+_, _-_, _*_, _≤_, _<_};
 ghost use lib.ListN.{length, set, replicate};
 ghost use lib.Dec.{eqb};
 ghost use Rattle.words.specs.Loops.{upTo};
 ghost use Rattle.words.specs.Pieces.{part, at, write, join};
 ghost use Rattle.request.specs.Request.{asked, arcCount};
+ghost use Rattle.request.specs.Accepted.{Accepted};
+ghost use Rattle.request.specs.Answer.{shapeOf};
 ghost use Rattle.labels.specs.Words.{keepWords};
 ghost use Rattle.rounds.specs.Rounds.{span, startLayer, arcStep, round, roundTries, table, tries};
 ghost use Rattle.tries.specs.Frame.{Framed};
-ghost use Rattle.table.specs.Build.{startWords, Layered, builtOf, laddersAfter, labelsAfter};
+ghost use Rattle.table.specs.Build.{startWords, Layered, frameOf, ladderWords, builtOf, laddersAfter, labelsAfter};
 
 // How many tries the rounds made, or the first refusal.
 pub enum Built {
@@ -158,4 +160,83 @@ fn draw_up(labels: &mut [u32], arcs: &[u32], ladders: &[u32], s: Frame) -> u64
     let source = s.request.source as usize;
     start_layer(labels, n, source, s.d, s.span);
     run_rounds(labels, arcs, ladders, s)
+}
+
+// The frame of an accepted request with its shape.
+fn frame(request: Request, shape: Shape) -> Frame
+    requires { ⌜ (2 ≤ request .criteria) × (request .criteria ≤ 3) × (shape .cells ≤ 1048576) ⌝ }
+    ensures { λ r. ⌜ r ≡ frameOf request shape ⌝ }
+{
+    let d = request.criteria as usize;
+    let w = d + 2;
+    let cells = shape.cells as usize;
+    let counts = [shape.b1 as usize, shape.b2 as usize];
+    Frame {
+        request,
+        d,
+        w,
+        cells,
+        span: cells * w,
+        counts,
+    }
+}
+
+// How many words the ladders of d criteria take.
+fn ladder_words(shape: Shape, d: u32) -> usize
+    requires { ⌜ (2 ≤ d) × (d ≤ 3) ⌝ }
+    ensures { λ r. ⌜ r ≡ ladderWords (shape .b1) (shape .b2) (d - 1) ⌝ }
+{
+    let first = shape.b1 as usize + 1;
+    if d == 2 {
+        return first;
+    }
+    first + (shape.b2 as usize + 1)
+}
+
+// The build of an accepted request: the two buffers are weighed, and then everything is written.
+fn build_shaped(
+    request: Request,
+    arcs: &[u32],
+    ladders: &mut [u32],
+    labels: &mut [u32],
+    shape: Shape,
+) -> Built
+    requires { ⌜ (Accepted (asked request (now arcs))) × (shape ≡ shapeOf (asked request (now arcs))) ⌝ }
+    ensures { λ r. ⌜ r ≡ builtOf (asked request (now (arcs .entry))) (length (now (ladders .entry))) (length (now (labels .entry))) ⌝ }
+    ensures { λ _. ⌜ now (ladders .exit) ≡ laddersAfter (asked request (now (arcs .entry))) (now (ladders .entry)) (length (now (labels .entry))) ⌝ }
+    ensures { λ _. ⌜ now (labels .exit) ≡ labelsAfter (asked request (now (arcs .entry))) (length (now (ladders .entry))) (now (labels .entry)) ⌝ }
+{
+    let s = frame(request, shape);
+    let graded = s.d - 1;
+    if ladders.len() < ladder_words(shape, request.criteria) {
+        return Built::Refused(Refusal {
+            number: 13,
+            place: 1,
+        });
+    }
+    let words = (shape.labels as usize) * s.w;
+    if labels.len() < words {
+        return Built::Refused(Refusal {
+            number: 13,
+            place: 2,
+        });
+    }
+    let ratios = request.ratios;
+    let counts = [shape.b1, shape.b2];
+    fill_ladders(ladders, ratios, counts, graded);
+    Built::Tries(draw_up(labels, arcs, ladders, s))
+}
+
+// Draws up the table of a request: its ladders one after another at the front of the one lent buffer, its layers 0 to K
+// at the front of the other. A refusal leaves both as they came.
+pub fn build(request: Request, arcs: &[u32], ladders: &mut [u32], labels: &mut [u32]) -> Built
+    ensures { λ r. ⌜ r ≡ builtOf (asked request (now (arcs .entry))) (length (now (ladders .entry))) (length (now (labels .entry))) ⌝ }
+    ensures { λ _. ⌜ now (ladders .exit) ≡ laddersAfter (asked request (now (arcs .entry))) (now (ladders .entry)) (length (now (labels .entry))) ⌝ }
+    ensures { λ _. ⌜ now (labels .exit) ≡ labelsAfter (asked request (now (arcs .entry))) (length (now (ladders .entry))) (now (labels .entry)) ⌝ }
+{
+    let checked = check(request, arcs);
+    match checked {
+        Checked::Refused(r) => Built::Refused(r),
+        Checked::Shaped(shape) => build_shaped(request, arcs, ladders, labels, shape),
+    }
 }
