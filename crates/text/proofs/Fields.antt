@@ -1,0 +1,139 @@
+-- Stretches of bytes up to a byte, and words in common: how each goes on at an index, and where it is the front of a list. Assumes nothing.
+use Prim.Native.Nat.{ℕ, zero, suc, _+_, _-_, _≤_, _<_}
+use mathlib.Core.Path.{_≡_, refl, ap}
+use mathlib.Core.List.{List, [], _∷_, _++_}
+use mathlib.Core.Bool.{Bool, true, false, cond}
+use mathlib.Core.Logic.{_⊎_, inl, inr}
+use native.Mathlib.Omega.{arith}
+use native.Mathlib.Numerals.{add-one}
+use lib.ListN.{length, getD, set, take, drop, drop-of-length-le, length-drop}
+use lib.Seq.{drop-cons, take-suc, take-all}
+use lib.Dec.{ltb, eqb}
+use borrow.Author.Tests.{ltb-true, ltb-false, eq-eqb, ne-eqb, eqb-true}
+use Rattle.words.specs.Pieces.{write}
+use Rattle.text.specs.Field.{before, common}
+
+pub lt-or-le : (a b : ℕ) → (a < b) ⊎ (b ≤ a)
+lt-or-le a b = go (ltb a b) refl
+  where
+    go : (t : Bool) → ltb a b ≡ t → (a < b) ⊎ (b ≤ a)
+    go true e = inl (ltb-true a b e)
+    go false e = inr (ltb-false a b e)
+
+-- ---- one byte more, as the code counts
+
+pub drop-next : (i : ℕ) (s : List ℕ) → i < length s → drop i s ≡ getD s i 0 ∷ drop (i + 1) s
+drop-next i s h = rw add-one (drop-cons s i 0 h)
+
+pub take-next : (i : ℕ) (s : List ℕ) → i < length s → take (i + 1) s ≡ take i s ++ (getD s i 0 ∷ [])
+take-next i s h = rw add-one (take-suc s i 0 h)
+
+-- the rest of a list, as the code's `&s[b..]` has it
+pub rest-is : (s : List ℕ) (b : ℕ) → take (length s - b) (drop b s) ≡ drop b s
+rest-is s b = take-all (length s - b) (drop b s) (simp length-drop (omega arith))
+
+-- ---- a store of one byte, and a write of nothing
+pub set-write : (l : List ℕ) (i v : ℕ) → set l i v ≡ write l i (v ∷ [])
+unfolding write
+set-write [] i v = refl
+set-write (x ∷ []) zero v = refl
+set-write (x ∷ (y ∷ l)) zero v = refl
+set-write (x ∷ l) (suc i) v = ap (λ (r : List ℕ). x ∷ r) (set-write l i v)
+
+pub write-none : (l : List ℕ) (at : ℕ) → write l at [] ≡ l
+unfolding write
+write-none [] at = refl
+write-none (x ∷ l) zero = refl
+write-none (x ∷ l) (suc at) = ap (λ (r : List ℕ). x ∷ r) (write-none l at)
+
+-- ---- the bytes before b
+
+pub before-stop : (b i : ℕ) (s : List ℕ) → i < length s → getD s i 0 ≡ b → before b (drop i s) ≡ []
+unfolding before
+before-stop b i s h e = rw (drop-next i s h, eq-eqb (getD s i 0) b e)
+
+pub before-on : (b i : ℕ) (s : List ℕ) → i < length s → (getD s i 0 ≡ b → ⊥) → before b (drop i s) ≡ getD s i 0 ∷ before b (drop (i + 1) s)
+unfolding before
+before-on b i s h e = rw (drop-next i s h, ne-eqb (getD s i 0) b e)
+
+pub before-end : (b i : ℕ) (s : List ℕ) → length s ≤ i → before b (drop i s) ≡ []
+unfolding before
+before-end b i s h = rw (drop-of-length-le s h)
+
+-- a byte that is not b is passed
+pub before-pass : (b c : ℕ) (cs : List ℕ) → (c ≡ b → ⊥) → before b (c ∷ cs) ≡ c ∷ before b cs
+unfolding before
+before-pass b c cs h = rw (ne-eqb c b h)
+
+pub before-first : (b : ℕ) (cs : List ℕ) → before b (b ∷ cs) ≡ []
+unfolding before
+before-first b cs = rw (eq-eqb b b refl)
+
+pub before-length : (b : ℕ) (s : List ℕ) → length (before b s) ≤ length s
+unfolding before
+before-length b [] = omega arith
+before-length b (c ∷ cs) = go (eqb c b) (before-length b cs)
+  where
+    go : (t : Bool) → length (before b cs) ≤ length cs → length (cond t [] (c ∷ before b cs)) ≤ suc (length cs)
+    go true ih = omega arith
+    go false ih = omega arith
+
+-- the bytes before b are the front of the list
+pub before-split : (b : ℕ) (s : List ℕ) → before b s ++ drop (length (before b s)) s ≡ s
+unfolding before
+before-split b [] = refl
+before-split b (c ∷ cs) = go (eqb c b) (before-split b cs)
+  where
+    go : (t : Bool) → before b cs ++ drop (length (before b cs)) cs ≡ cs
+        → cond t [] (c ∷ before b cs) ++ drop (length (cond t [] (c ∷ before b cs))) (c ∷ cs) ≡ c ∷ cs
+    go true ih = refl
+    go false ih = ap (λ (l : List ℕ). c ∷ l) ih
+
+-- where they are not all of the list, b follows
+pub before-found : (b : ℕ) (s : List ℕ) → length (before b s) < length s → s ≡ before b s ++ (b ∷ drop (suc (length (before b s))) s)
+unfolding before
+before-found b [] h = absurd (omega arith)
+before-found b (c ∷ cs) h = go (eqb c b) refl (before-found b cs) h
+  where
+    go : (t : Bool) → eqb c b ≡ t → (length (before b cs) < length cs → cs ≡ before b cs ++ (b ∷ drop (suc (length (before b cs))) cs))
+        → length (cond t [] (c ∷ before b cs)) < suc (length cs)
+        → c ∷ cs ≡ cond t [] (c ∷ before b cs) ++ (b ∷ drop (suc (length (cond t [] (c ∷ before b cs)))) (c ∷ cs))
+    go true q ih h = ap (λ (x : ℕ). x ∷ cs) (eqb-true c b q)
+    go false q ih h = ap (λ (l : List ℕ). c ∷ l) (ih (omega arith))
+
+-- ---- bytes in common with a word, at index i
+
+module _ (i : ℕ) (w l : List ℕ) where
+  pub common-done : length w ≤ i → common (drop i w) (drop i l) ≡ 0
+  unfolding common
+  common-done h = rw (drop-of-length-le w h)
+
+  pub common-short : i < length w → length l ≤ i → common (drop i w) (drop i l) ≡ 0
+  unfolding common
+  common-short h k = rw (drop-next i w h, drop-of-length-le l k)
+
+  pub common-stop : i < length w → i < length l → (getD l i 0 ≡ getD w i 0 → ⊥) → common (drop i w) (drop i l) ≡ 0
+  unfolding common
+  common-stop h k e = rw (drop-next i w h, drop-next i l k, ne-eqb (getD l i 0) (getD w i 0) e)
+
+  pub common-on : i < length w → i < length l → getD l i 0 ≡ getD w i 0
+      → common (drop i w) (drop i l) ≡ common (drop (i + 1) w) (drop (i + 1) l) + 1
+  unfolding common
+  common-on h k e = rw (drop-next i w h, drop-next i l k, eq-eqb (getD l i 0) (getD w i 0) e)
+
+-- a line that begins with the word has all of it in common, and the other way round
+pub common-append : (w t : List ℕ) → common w (w ++ t) ≡ length w
+unfolding common
+common-append [] t = refl
+common-append (x ∷ w) t = rw (eq-eqb x x refl, common-append w t) (add-one (length w))
+
+pub common-was : (w line : List ℕ) → length w ≤ common w line → line ≡ w ++ drop (length w) line
+unfolding common
+common-was [] line h = refl
+common-was (x ∷ w) [] h = absurd (omega arith)
+common-was (x ∷ w) (c ∷ l) h = go (eqb c x) refl (common-was w l) h
+  where
+    go : (t : Bool) → eqb c x ≡ t → (length w ≤ common w l → l ≡ w ++ drop (length w) l)
+        → suc (length w) ≤ cond t (common w l + 1) 0 → c ∷ l ≡ x ∷ (w ++ drop (length w) l)
+    go true q ih h = rw (eqb-true c x q) (ap (λ (r : List ℕ). x ∷ r) (ih (omega arith)))
+    go false q ih h = absurd (omega arith)
