@@ -1,7 +1,7 @@
 -- A number of a field: how reading it goes on at an index, and where a fault lies. Assumes nothing.
 use Prim.Native.Nat.{ℕ, suc, _+_, _-_, _*_, _≤_, _<_}
 use mathlib.Core.Path.{_≡_, refl}
-use mathlib.Core.List.{List, [], _∷_}
+use mathlib.Core.List.{List, [], _∷_, _++_}
 use mathlib.Core.Bool.{Bool, true, false, cond, _&&_, _||_}
 use native.Mathlib.Omega.{arith}
 use lib.ListN.{length, getD, drop, drop-of-length-le}
@@ -113,3 +113,12 @@ pub over-not : (vs : List ℕ) → AtMost largest vs → anyOver vs ≡ false
 unfolding anyOver
 over-not [] h = refl
 over-not (v ∷ vs) h = rw (le-ltb largest v (atMost-at largest (v ∷ vs) 0 h), over-not vs (atMost-drop largest 1 (v ∷ vs) h))
+
+pub over-append : (xs ys : List ℕ) → anyOver (xs ++ ys) ≡ (anyOver xs || anyOver ys)
+unfolding anyOver
+over-append [] ys = refl
+over-append (x ∷ xs) ys = rw (over-append xs ys) (go (ltb largest x))
+  where
+    go : (t : Bool) → (t || (anyOver xs || anyOver ys)) ≡ ((t || anyOver xs) || anyOver ys)
+    go true = refl
+    go false = refl

@@ -99,3 +99,7 @@ width-none vs = refl
 
 pub width-next : (vs : List ℕ) (i : ℕ) → i < length vs → partedWidth (take (i + 1) vs) ≡ partedWidth (take i vs) + 1 + length (digits (getD vs i 0))
 width-next vs i h = rw (← parted-width 0 (take (i + 1) vs), ← parted-width 0 (take i vs)) (parted-end 0 vs i h)
+
+pub width-append : (xs ys : List ℕ) → partedWidth (xs ++ ys) ≡ partedWidth xs + partedWidth ys
+width-append xs ys =
+    rw (← parted-width 0 (xs ++ ys), ← parted-width 0 xs, ← parted-width 0 ys, parted-append 0 xs ys) (length-append (parted 0 xs) (parted 0 ys))

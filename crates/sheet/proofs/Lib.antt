@@ -1,0 +1,13 @@
+pub mod LineKinds
+pub mod Scan
+pub mod Arcs
+pub mod First
+pub mod Stores
+pub mod Answers
+pub mod Lengths
+pub mod Puts
+pub mod Writings
+pub mod Rendered
+pub mod Accepted
+pub mod Clear
+pub mod RoundTrips
