@@ -28,9 +28,6 @@ lines-asks : (n d i k : ℕ) (s words asks : List ℕ) → linesFrom n d i k [] 
 lines-asks n d i k s words asks e =
     ⊎-elim here (λ u. let f = sym (lines-loose n d i k [] s u) ∙ e in let z : _≡_ {A = ℕ} 0 1 = cc in absurd (omega arith)) (lt-or-le (length (before lf s)) (length s))
   where
-    rest : List ℕ
-    rest = drop (suc (length (before lf s))) s
-
     arc : ArcNext (kindOf d i (before lf s)) (linesFrom n d (i + 1) (k + 1) [] (drop (suc (length (before lf s))) s)) n d i words asks → ⊥
     arc a =
         let c = lines-keeps n d (i + 1) (k + 1) [] (drop (suc (length (before lf s))) s) n d i (a .more) asks (a .after) .count in

@@ -1,6 +1,6 @@
 -- The reader's answer by its refusal table, and that an answer's numbers tell the answer. Assumes nothing.
 use Prim.Native.Nat.{ℕ, _≤_, _<_}
-use mathlib.Core.Path.{_≡_, refl, ap, _∙_}
+use mathlib.Core.Path.{_≡_, refl, ap, _∙_, sym}
 use mathlib.Core.List.{List}
 use mathlib.Core.Bool.{false}
 use native.Mathlib.Omega.{arith}
@@ -10,6 +10,7 @@ use Rattle.words.specs.Pieces.{write}
 use Rattle.words.specs.Rows.{clear, refused, weigh}
 use Rattle.words.proofs.Rows.{weigh-held, weigh-passed, weigh-none}
 use Rattle.words.proofs.Choices.{true-is, false-is}
+use Rattle.request.specs.declared.Request.{Request}
 use Rattle.request.specs.declared.Refusal.{Refusal}
 use Rattle.sheet.specs.declared.reader.Form.{Form}
 use Rattle.sheet.specs.declared.reader.Checked.the-variants.{Whole, Broken}
@@ -18,8 +19,8 @@ use Rattle.sheet.specs.declared.Outcome.the-variants.{Sheet, Refused}
 use Rattle.sheet.specs.declared.Reading.{Reading}
 use Rattle.sheet.specs.Grammar.{Contents, whole, broken, sheetOf}
 use Rattle.sheet.specs.Inside.{formOf, refusedReading}
-use Rattle.sheet.specs.Answer.{refusalSaid, said}
-use Rattle.sheet.specs.Reader.{isBroken, badLine, wordsOf, requestOf, readerRows, readSays, readRequest, arcsAfter}
+use Rattle.sheet.specs.Answer.{refusalSaid}
+use Rattle.sheet.specs.Reader.{said, isBroken, badLine, wordsOf, requestOf, readerRows, readSays, readRequest, arcsAfter}
 
 -- ---- one to one
 
@@ -90,3 +91,11 @@ module _ (s : List ℕ) (l : List ℕ) where
           let w : weigh (readerRows s (length l)) ≡ clear =
           past-form ∙ weigh-passed _ _ (false-is (le-ltb (length l) (length (wordsOf (sheetOf s))) h)) ∙ weigh-none in
           record { says = rw w refl; request = rw w refl; arcs = rw w refl }
+
+  -- ---- two answers that the promise allows are the same
+
+  pub reads-once : (q r : Reading) (x y : List ℕ) → Reads q x → Reads r y → (q ≡ r) × (x ≡ y)
+  reads-once q r x y a b =
+      let o : q .outcome ≡ r .outcome = said-once (q .outcome) (r .outcome) (a .says ∙ sym (b .says)) in
+      let e : q .request ≡ r .request = a .request ∙ sym (b .request) in
+      (ap (λ (z : Outcome). record { outcome = z; request = q .request }) o ∙ ap (λ (z : Request). record { outcome = r .outcome; request = z }) e, a .arcs ∙ sym (b .arcs))

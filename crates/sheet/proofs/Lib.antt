@@ -11,3 +11,4 @@ pub mod Rendered
 pub mod Accepted
 pub mod Clear
 pub mod RoundTrips
+pub mod Examples

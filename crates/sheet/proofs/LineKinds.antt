@@ -14,11 +14,10 @@ use Rattle.text.specs.declared.Line.the-variants.{Good, Bad}
 use Rattle.text.specs.Line.{Got, good, bad, lineOf, answerOf, takenOf}
 use Rattle.text.proofs.Fields.{lt-or-le}
 use Rattle.text.proofs.Written.{lineOf-was}
-use Rattle.sheet.specs.declared.reader.Ask.{Ask}
-use Rattle.sheet.specs.declared.reader.AskLine.the-variants.{Asks, NoAsk}
-use Rattle.sheet.specs.declared.reader.Sort.the-variants.{Arc, Last, Neither}
+use Rattle.sheet.specs.declared.reader.Asked.{Asked}
+use Rattle.sheet.specs.declared.reader.LineKind.the-variants.{Arc}
 use Rattle.sheet.specs.Grammar.{tab, arcLine, askLine, orAsk, arcOr, kindOf}
-use Rattle.sheet.specs.Inside.{askOf, isGood, askSaid, sortOf}
+use Rattle.sheet.specs.Inside.{askedFrom, isGood, askKind, lineKind}
 
 -- ---- what a line's reader tells
 
@@ -54,10 +53,10 @@ filled word n line vs out₀ out l g e =
 abbrev pub padded : ℕ → List ℕ → List ℕ
 padded n vs = vs ++ drop n (0 ∷ 0 ∷ 0 ∷ 0 ∷ 0 ∷ 1 ∷ [])
 
-abbrev pub askFrom : List ℕ → Ask
+abbrev pub askFrom : List ℕ → Asked
 askFrom l = record { source = getD l 0 0; hops = getD l 1 0; p1 = getD l 2 0; q1 = getD l 3 0; p2 = getD l 4 0; q2 = getD l 5 0 }
 
-padded-four : (vs : List ℕ) → length vs ≡ 4 → askFrom (padded 4 vs) ≡ askOf vs
+padded-four : (vs : List ℕ) → length vs ≡ 4 → askFrom (padded 4 vs) ≡ askedFrom vs
 padded-four [] h = absurd (omega arith)
 padded-four (a ∷ []) h = absurd (omega arith)
 padded-four (a ∷ (b ∷ [])) h = absurd (omega arith)
@@ -65,7 +64,7 @@ padded-four (a ∷ (b ∷ (c ∷ []))) h = absurd (omega arith)
 padded-four (a ∷ (b ∷ (c ∷ (d ∷ [])))) h = refl
 padded-four (a ∷ (b ∷ (c ∷ (d ∷ (e ∷ vs))))) h = absurd (omega arith)
 
-padded-six : (vs : List ℕ) → length vs ≡ 6 → askFrom (padded 6 vs) ≡ askOf vs
+padded-six : (vs : List ℕ) → length vs ≡ 6 → askFrom (padded 6 vs) ≡ askedFrom vs
 padded-six [] h = absurd (omega arith)
 padded-six (a ∷ []) h = absurd (omega arith)
 padded-six (a ∷ (b ∷ [])) h = absurd (omega arith)
@@ -75,52 +74,33 @@ padded-six (a ∷ (b ∷ (c ∷ (d ∷ (e ∷ []))))) h = absurd (omega arith)
 padded-six (a ∷ (b ∷ (c ∷ (d ∷ (e ∷ (f ∷ vs)))))) h = refl
 
 -- the numbers v that were read, in front of those that were there
-pub padded-ask : (d : ℕ) (v vs : List ℕ) → 2 ≤ d → d ≤ 3 → v ≡ vs → length vs ≡ d * 2 → askFrom (padded (d * 2) v) ≡ askOf vs
+pub padded-ask : (d : ℕ) (v vs : List ℕ) → 2 ≤ d → d ≤ 3 → v ≡ vs → length vs ≡ d * 2 → askFrom (padded (d * 2) v) ≡ askedFrom vs
 padded-ask d v vs l u q h =
     ⊎-elim (λ s. let e : d * 2 ≡ 4 = omega arith in rw (q, e) (padded-four vs (h ∙ e)))
     (λ s. let e : d * 2 ≡ 6 = omega arith in rw (q, e) (padded-six vs (h ∙ e)))
     (lt-or-le d 3)
 
--- ---- the sort of a line
+-- ---- the kind of a line
 
 module _ (d m : ℕ) (l : List ℕ) where
-  pub sort-arc : m < 512 → true ≡ isGood (arcLine d l) → Arc ≡ sortOf (kindOf d m l)
+  -- an arc, where there may be one more
+  pub kind-arc-told : m < 512 → true ≡ isGood (arcLine d l) → Arc ≡ lineKind (kindOf d m l)
   unfolding kindOf
-  sort-arc h e = rw (lt-ltb m 512 h) (go (arcLine d l) e)
+  kind-arc-told h e = rw (lt-ltb m 512 h) (go (arcLine d l) e)
     where
-      go : (g : Got) → true ≡ isGood g → Arc ≡ sortOf (arcOr g (orAsk (askLine d l)))
+      go : (g : Got) → true ≡ isGood g → Arc ≡ lineKind (arcOr g (orAsk (askLine d l)))
       go (good vs) e = refl
       go (bad j us) e = let z : _≡_ {A = ℕ} 0 1 = cc in absurd (omega arith)
 
-  -- of a line that is no arc, or after the last arc that there may be
-  pub sort-ask : ((m < 512) → isGood (arcLine d l) ≡ false) → (a : Ask) → askSaid (askLine d l) ≡ Asks a
-      → Last a ≡ sortOf (kindOf d m l)
+  -- any other line is the ask or neither
+  pub kind-else-told : ((m < 512) → isGood (arcLine d l) ≡ false) → askKind (askLine d l) ≡ lineKind (kindOf d m l)
   unfolding kindOf
-  sort-ask h a e = ⊎-elim (λ s. rw (lt-ltb m 512 s) (arc (arcLine d l) (h s))) (λ s. rw (le-ltb m 512 s) ask) (lt-or-le m 512)
+  kind-else-told h = ⊎-elim (λ s. rw (lt-ltb m 512 s) (arc (arcLine d l) (h s))) (λ s. rw (le-ltb m 512 s) (ask (askLine d l))) (lt-or-le m 512)
     where
-      ask : Last a ≡ sortOf (orAsk (askLine d l))
-      ask = last (askLine d l) e
-        where
-          last : (g : Got) → askSaid g ≡ Asks a → Last a ≡ sortOf (orAsk g)
-          last (good vs) e = let q : askOf vs ≡ a = cc in ap Last (sym q)
-          last (bad j us) e = let z : _≡_ {A = ℕ} 0 1 = cc in absurd (omega arith)
+      ask : (g : Got) → askKind g ≡ lineKind (orAsk g)
+      ask (good vs) = refl
+      ask (bad j us) = refl
 
-      arc : (g : Got) → isGood g ≡ false → Last a ≡ sortOf (arcOr g (orAsk (askLine d l)))
+      arc : (g : Got) → isGood g ≡ false → askKind (askLine d l) ≡ lineKind (arcOr g (orAsk (askLine d l)))
       arc (good vs) e = let z : _≡_ {A = ℕ} 0 1 = cc in absurd (omega arith)
-      arc (bad j us) e = ask
-
-  pub sort-neither : ((m < 512) → isGood (arcLine d l) ≡ false) → askSaid (askLine d l) ≡ NoAsk
-      → Neither ≡ sortOf (kindOf d m l)
-  unfolding kindOf
-  sort-neither h e = ⊎-elim (λ s. rw (lt-ltb m 512 s) (arc (arcLine d l) (h s))) (λ s. rw (le-ltb m 512 s) ask) (lt-or-le m 512)
-    where
-      none : (g : Got) → askSaid g ≡ NoAsk → Neither ≡ sortOf (orAsk g)
-      none (good vs) e = let z : _≡_ {A = ℕ} 0 1 = cc in absurd (omega arith)
-      none (bad j us) e = refl
-
-      ask : Neither ≡ sortOf (orAsk (askLine d l))
-      ask = none (askLine d l) e
-
-      arc : (g : Got) → isGood g ≡ false → Neither ≡ sortOf (arcOr g (orAsk (askLine d l)))
-      arc (good vs) e = let z : _≡_ {A = ℕ} 0 1 = cc in absurd (omega arith)
-      arc (bad j us) e = ask
+      arc (bad j us) e = ask (askLine d l)

@@ -16,11 +16,10 @@ use Rattle.words.proofs.Bounds.{atMost-none, atMost-cons, atMost-take, atMost-d
 use Rattle.text.specs.Field.{before, common}
 use Rattle.text.specs.Number.{digits, largest}
 use Rattle.text.specs.Line.{good, bad, lineOf, parted, lineText}
-use Rattle.text.proofs.Fields.{lt-or-le, before-pass}
+use Rattle.text.proofs.Fields.{lt-or-le, before-pass, before-first}
 use Rattle.text.proofs.Written.{before-digits, lineOf-parted}
 use Rattle.sheet.specs.Grammar.{lf, tab, tracksWord, arcWord, askWord, anArc, anAsk, orAsk, arcOr, kindOf, whole, broken, judge, linesFrom, sheetOf}
 use Rattle.sheet.specs.Rendering.{arcLines, sheetText, Sheetable}
-use Rattle.text.proofs.Fields.{before-first}
 use Rattle.sheet.proofs.Scan.{lines-line}
 use Rattle.sheet.proofs.First.{sheet-line}
 

@@ -23,9 +23,8 @@ use Rattle.sheet.specs.declared.Writing.the-variants.{Bytes}
 use Rattle.sheet.specs.Grammar.{whole, sheetOf}
 use Rattle.sheet.specs.Rendering.{sheetText, Sheetable}
 use Rattle.sheet.specs.Inside.{formOf}
-use Rattle.sheet.specs.Answer.{said, writingSaid}
-use Rattle.sheet.specs.Reader.{wordsOf, requestFrom, requestOf, readerRows, readSays, readRequest, arcsAfter}
-use Rattle.sheet.specs.Writer.{askNumbers, asksOf, numbersOf, written, writerRows, writeSays, sheetAfter, Ranged}
+use Rattle.sheet.specs.Reader.{said, wordsOf, requestFrom, requestOf, readerRows, readSays, readRequest, arcsAfter}
+use Rattle.sheet.specs.Writer.{writingSaid, askNumbers, asksOf, numbersOf, written, writerRows, writeSays, sheetAfter, Ranged}
 use Rattle.sheet.specs.RoundTrip.{SameBytes, comesBack, SameNumbers}
 use Rattle.sheet.proofs.First.{sheetable}
 use Rattle.sheet.proofs.Accepted.{sheet-was}

@@ -8,11 +8,11 @@ use lib.ListN.{length, drop, length-drop, drop-of-length-le}
 use lib.Seq.{drop-drop}
 use lib.Dec.{eqb}
 use Rattle.text.specs.Field.{before}
-use Rattle.sheet.specs.declared.reader.Ask.{Ask}
-use Rattle.sheet.specs.declared.reader.Sort.the-variants.{Arc, Last, Neither}
+use Rattle.sheet.specs.declared.reader.Asked.{Asked}
+use Rattle.sheet.specs.declared.reader.LineKind.the-variants.{Arc, Ask, Neither}
 use Rattle.sheet.specs.declared.reader.Checked.the-variants.{Whole, Broken}
 use Rattle.sheet.specs.Grammar.{lf, Kind, anArc, anAsk, neither, kindOf, Contents, whole, broken, addArc, judge, linesFrom}
-use Rattle.sheet.specs.Inside.{askOf, sortOf, formOf}
+use Rattle.sheet.specs.Inside.{askedFrom, lineKind, formOf}
 
 -- a line up to its LF
 pub lines-line : (n d m k : ℕ) (cur s : List ℕ) → length (before lf s) < length s
@@ -62,36 +62,36 @@ form-arc vs (broken k) = refl
 
 -- what a line of each sort makes of the sheet's formOf
 module _ (n d m k : ℕ) (g : Kind) (cs : List ℕ) (rest : Contents) where
-  judge-arc : Arc ≡ sortOf g → formOf (judge g n d m k cs rest) ≡ formOf rest
+  judge-arc : Arc ≡ lineKind g → formOf (judge g n d m k cs rest) ≡ formOf rest
   judge-arc e = go g e
     where
-      go : (g : Kind) → Arc ≡ sortOf g → formOf (judge g n d m k cs rest) ≡ formOf rest
+      go : (g : Kind) → Arc ≡ lineKind g → formOf (judge g n d m k cs rest) ≡ formOf rest
       go (anArc vs) e = form-arc vs rest
       go (anAsk vs) e = let z : _≡_ {A = ℕ} 0 1 = cc in absurd (omega arith)
       go neither e = let z : _≡_ {A = ℕ} 0 1 = cc in absurd (omega arith)
 
-  judge-neither : Neither ≡ sortOf g → formOf (judge g n d m k cs rest) ≡ Broken k
+  judge-neither : Neither ≡ lineKind g → formOf (judge g n d m k cs rest) ≡ Broken k
   judge-neither e = go g e
     where
-      go : (g : Kind) → Neither ≡ sortOf g → formOf (judge g n d m k cs rest) ≡ Broken k
+      go : (g : Kind) → Neither ≡ lineKind g → formOf (judge g n d m k cs rest) ≡ Broken k
       go (anArc vs) e = let z : _≡_ {A = ℕ} 0 1 = cc in absurd (omega arith)
       go (anAsk vs) e = let z : _≡_ {A = ℕ} 0 1 = cc in absurd (omega arith)
       go neither e = refl
 
-  judge-ask : (a : Ask) → Last a ≡ sortOf g → length cs ≡ 0 → formOf (judge g n d m k cs rest) ≡ Whole (record { nodes = n; criteria = d; arcs = m; ask = a })
+  judge-ask : (a : Asked) → Ask a ≡ lineKind g → length cs ≡ 0 → formOf (judge g n d m k cs rest) ≡ Whole (record { nodes = n; criteria = d; arcs = m; ask = a })
   judge-ask a e l = go g e cs l
     where
-      go : (g : Kind) → Last a ≡ sortOf g → (cs : List ℕ) → length cs ≡ 0
+      go : (g : Kind) → Ask a ≡ lineKind g → (cs : List ℕ) → length cs ≡ 0
           → formOf (judge g n d m k cs rest) ≡ Whole (record { nodes = n; criteria = d; arcs = m; ask = a })
       go (anArc vs) e cs l = let z : _≡_ {A = ℕ} 0 1 = cc in absurd (omega arith)
-      go (anAsk vs) e [] l = let q : a ≡ askOf vs = cc in rw q
+      go (anAsk vs) e [] l = let q : a ≡ askedFrom vs = cc in rw q
       go (anAsk vs) e (c ∷ cs) l = absurd (omega arith)
       go neither e cs l = let z : _≡_ {A = ℕ} 0 1 = cc in absurd (omega arith)
 
-  judge-more : (a : Ask) → Last a ≡ sortOf g → 0 < length cs → formOf (judge g n d m k cs rest) ≡ Broken (k + 1)
+  judge-more : (a : Asked) → Ask a ≡ lineKind g → 0 < length cs → formOf (judge g n d m k cs rest) ≡ Broken (k + 1)
   judge-more a e l = go g e cs l
     where
-      go : (g : Kind) → Last a ≡ sortOf g → (cs : List ℕ) → 0 < length cs → formOf (judge g n d m k cs rest) ≡ Broken (k + 1)
+      go : (g : Kind) → Ask a ≡ lineKind g → (cs : List ℕ) → 0 < length cs → formOf (judge g n d m k cs rest) ≡ Broken (k + 1)
       go (anArc vs) e cs l = let z : _≡_ {A = ℕ} 0 1 = cc in absurd (omega arith)
       go (anAsk vs) e [] l = absurd (omega arith)
       go (anAsk vs) e (c ∷ cs) l = refl
@@ -107,21 +107,21 @@ module _ (n d m k : ℕ) (s : List ℕ) (at : ℕ) (line : List ℕ) (q : line �
   judged = ap formOf (lines-at n d m k s at line q h l)
 
   -- an arc: the lines after it say the rest
-  pub says-arc : Arc ≡ sortOf (kindOf d m line) → formOf (linesFrom n d m k [] (drop at s)) ≡ formOf (linesFrom n d (m + 1) (k + 1) [] rest)
+  pub says-arc : Arc ≡ lineKind (kindOf d m line) → formOf (linesFrom n d m k [] (drop at s)) ≡ formOf (linesFrom n d (m + 1) (k + 1) [] rest)
   says-arc e = judged ∙ judge-arc n d m k (kindOf d m line) rest (linesFrom n d (m + 1) (k + 1) [] rest) e
 
   -- neither: the line is bad
-  pub says-neither : Neither ≡ sortOf (kindOf d m line) → formOf (linesFrom n d m k [] (drop at s)) ≡ Broken k
+  pub says-neither : Neither ≡ lineKind (kindOf d m line) → formOf (linesFrom n d m k [] (drop at s)) ≡ Broken k
   says-neither e = judged ∙ judge-neither n d m k (kindOf d m line) rest (linesFrom n d (m + 1) (k + 1) [] rest) e
 
   -- the ask, at the sheet's end: the sheet is whole
-  pub says-ask : (a : Ask) → Last a ≡ sortOf (kindOf d m line) → at + length line + 1 ≡ length s
+  pub says-ask : (a : Asked) → Ask a ≡ lineKind (kindOf d m line) → at + length line + 1 ≡ length s
       → formOf (linesFrom n d m k [] (drop at s)) ≡ Whole (record { nodes = n; criteria = d; arcs = m; ask = a })
   says-ask a e f =
       judged ∙ judge-ask n d m k (kindOf d m line) rest (linesFrom n d (m + 1) (k + 1) [] rest) a e (length-drop (at + length line + 1) s ∙ omega arith)
 
   -- the ask, and bytes after it: the next line is bad
-  pub says-more : (a : Ask) → Last a ≡ sortOf (kindOf d m line) → (at + length line + 1 ≡ length s → ⊥)
+  pub says-more : (a : Asked) → Ask a ≡ lineKind (kindOf d m line) → (at + length line + 1 ≡ length s → ⊥)
       → formOf (linesFrom n d m k [] (drop at s)) ≡ Broken (k + 1)
   says-more a e f =
       judged ∙ judge-more n d m k (kindOf d m line) rest (linesFrom n d (m + 1) (k + 1) [] rest) a e (rw length-drop (omega arith))

@@ -13,7 +13,7 @@ use Rattle.sheet.specs.declared.reader.Form.{Form}
 use Rattle.sheet.specs.declared.reader.Checked.the-variants.{Whole}
 use Rattle.sheet.specs.Grammar.{lf, tab, arcWord, Contents, whole, broken, linesFrom, sheetOf}
 use Rattle.sheet.specs.Rendering.{Sheetable}
-use Rattle.sheet.specs.Inside.{askOf, formOf, requestFor}
+use Rattle.sheet.specs.Inside.{askedFrom, formOf, requestFor}
 use Rattle.sheet.specs.Reader.{wordsOf, requestOf}
 use Rattle.sheet.proofs.Arcs.{lines-keeps, arc-here}
 use Rattle.sheet.proofs.First.{sheet-begun, sheetable}
@@ -35,13 +35,13 @@ askedOf (broken k) = []
 -- a sheet of the form f
 pub whole-was : (p : Contents) (f : Form) → formOf p ≡ Whole f → p ≡ whole (f .nodes) (f .criteria) (f .arcs) (wordsOf p) (askedOf p)
 whole-was (whole n d m words asks) f e =
-    let q : record { nodes = n; criteria = d; arcs = m; ask = askOf asks } ≡ f = cc in
+    let q : record { nodes = n; criteria = d; arcs = m; ask = askedFrom asks } ≡ f = cc in
     ap (λ (f : Form). whole (f .nodes) (f .criteria) (f .arcs) words asks) q
 whole-was (broken k) f e = let z : _≡_ {A = ℕ} 0 1 = cc in absurd (omega arith)
 
 pub form-request : (p : Contents) (f : Form) → formOf p ≡ Whole f → requestFor f ≡ requestOf p
 form-request (whole n d m words asks) f e =
-    let q : record { nodes = n; criteria = d; arcs = m; ask = askOf asks } ≡ f = cc in
+    let q : record { nodes = n; criteria = d; arcs = m; ask = askedFrom asks } ≡ f = cc in
     ap requestFor (sym q)
 form-request (broken k) f e = let z : _≡_ {A = ℕ} 0 1 = cc in absurd (omega arith)
 

@@ -1,6 +1,6 @@
 -- The writer's answer by its refusal table, and that an answer's numbers tell the answer. Assumes nothing.
 use Prim.Native.Nat.{ℕ, _+_, _/_, _%_, _≤_, _<_}
-use mathlib.Core.Path.{_≡_, refl, ap, _∙_}
+use mathlib.Core.Path.{_≡_, refl, ap, _∙_, sym}
 use mathlib.Core.List.{List}
 use mathlib.Core.Bool.{Bool, true, false, not, _||_}
 use native.Mathlib.Omega.{arith}
@@ -14,9 +14,8 @@ use Rattle.words.proofs.Choices.{true-is, false-is}
 use Rattle.request.specs.declared.Request.{Request}
 use Rattle.text.specs.Number.{anyOver}
 use Rattle.sheet.specs.declared.Writing.{Writing}
-use Rattle.sheet.specs.declared.Writing.the-variants.{Bytes, NotWritten}
-use Rattle.sheet.specs.Answer.{writingSaid}
-use Rattle.sheet.specs.Writer.{numbersOf, written, writerRows, writeSays, sheetAfter, Ranged}
+use Rattle.sheet.specs.declared.Writing.the-variants.{Bytes, Refused}
+use Rattle.sheet.specs.Writer.{writingSaid, refusedWriting, numbersOf, written, writerRows, writeSays, sheetAfter, Ranged}
 use Rattle.sheet.proofs.Answers.{same-refusal}
 
 -- ---- one to one
@@ -24,9 +23,9 @@ use Rattle.sheet.proofs.Answers.{same-refusal}
 -- two answers that say the same are the same
 pub writing-said-once : (a b : Writing) → writingSaid a ≡ writingSaid b → a ≡ b
 writing-said-once (Bytes m) (Bytes n) e = let q : m ≡ n = cc in ap Bytes q
-writing-said-once (Bytes m) (NotWritten r) e = absurd (omega (arith, ap (length {A = ℕ}) e))
-writing-said-once (NotWritten r) (Bytes n) e = absurd (omega (arith, ap (length {A = ℕ}) e))
-writing-said-once (NotWritten q) (NotWritten r) e = ap NotWritten (same-refusal q r e)
+writing-said-once (Bytes m) (Refused r) e = absurd (omega (arith, ap (length {A = ℕ}) e))
+writing-said-once (Refused r) (Bytes n) e = absurd (omega (arith, ap (length {A = ℕ}) e))
+writing-said-once (Refused q) (Refused r) e = ap Refused (same-refusal q r e)
 
 -- ---- the tests of rows 3 and 7
 
@@ -51,15 +50,15 @@ module _ (r : Request) (words sheet : List ℕ) where
     pub says : writingSaid w ≡ writeSays r words (length sheet)
     pub bytes : sheet′ ≡ sheetAfter r words sheet
 
-  refuses : (number place : ℕ) → weigh rows ≡ refused number place → Writes (NotWritten (record { number = number; place = place })) sheet
+  refuses : (number place : ℕ) → weigh rows ≡ refused number place → Writes (refusedWriting number place) sheet
   unfolding writeSays sheetAfter
   refuses number place e = record { says = rw e refl; bytes = rw e refl }
 
   -- row 3
-  pub writes-few : r .criteria < 2 → Writes (NotWritten (record { number = 3; place = 0 })) sheet
+  pub writes-few : r .criteria < 2 → Writes (refusedWriting 3 0) sheet
   writes-few h = refuses 3 0 (weigh-held _ _ (true-is (either-true (ltb (r .criteria) 2) (ltb 3 (r .criteria)) (lt-ltb (r .criteria) 2 h))))
 
-  pub writes-many : 3 < r .criteria → Writes (NotWritten (record { number = 3; place = 0 })) sheet
+  pub writes-many : 3 < r .criteria → Writes (refusedWriting 3 0) sheet
   writes-many h =
       refuses 3 0 (weigh-held _ _ (true-is (ap (λ (t : Bool). ltb (r .criteria) 2 || t) (lt-ltb 3 (r .criteria) h) ∙ or-true (ltb (r .criteria) 2))))
 
@@ -68,11 +67,11 @@ module _ (r : Request) (words sheet : List ℕ) where
     past-d = weigh-passed _ _ (false-is (neither-true (ltb (r .criteria) 2) (ltb 3 (r .criteria)) (le-ltb (r .criteria) 2 lo) (le-ltb 3 (r .criteria) hi)))
 
     -- row 7
-    pub writes-odd : (length words % (r .criteria + 2) ≡ 0 → ⊥) → Writes (NotWritten (record { number = 7; place = 0 })) sheet
+    pub writes-odd : (length words % (r .criteria + 2) ≡ 0 → ⊥) → Writes (refusedWriting 7 0) sheet
     writes-odd h =
         refuses 7 0 (past-d ∙ weigh-held _ _ (true-is (either-true (not (eqb (length words % (r .criteria + 2)) 0)) (ltb 512 (length words / (r .criteria + 2))) (ap not (ne-eqb (length words % (r .criteria + 2)) 0 h)))))
 
-    pub writes-crowded : 512 < length words / (r .criteria + 2) → Writes (NotWritten (record { number = 7; place = 0 })) sheet
+    pub writes-crowded : 512 < length words / (r .criteria + 2) → Writes (refusedWriting 7 0) sheet
     writes-crowded h =
         refuses 7 0
         (past-d
@@ -86,7 +85,7 @@ module _ (r : Request) (words sheet : List ℕ) where
         (ap not (eq-eqb (length words % (r .criteria + 2)) 0 (g .multiple))) (le-ltb 512 (length words / (r .criteria + 2)) (g .arcs))))
 
     -- row 11
-    pub writes-large : anyOver (numbersOf r words) ≡ true → Writes (NotWritten (record { number = 11; place = 0 })) sheet
+    pub writes-large : anyOver (numbersOf r words) ≡ true → Writes (refusedWriting 11 0) sheet
     writes-large h = refuses 11 0 (past-arcs ∙ weigh-held _ _ (true-is h))
 
     module _ (small : anyOver (numbersOf r words) ≡ false) where
@@ -94,7 +93,7 @@ module _ (r : Request) (words sheet : List ℕ) where
       past-numbers = past-arcs ∙ weigh-passed _ _ (false-is small)
 
       -- row 12
-      pub writes-long : 8192 < length (written r words) → Writes (NotWritten (record { number = 12; place = 0 })) sheet
+      pub writes-long : 8192 < length (written r words) → Writes (refusedWriting 12 0) sheet
       writes-long h = refuses 12 0 (past-numbers ∙ weigh-held _ _ (true-is (lt-ltb 8192 (length (written r words)) h)))
 
       module _ (fits : length (written r words) ≤ 8192) where
@@ -102,7 +101,7 @@ module _ (r : Request) (words sheet : List ℕ) where
         past-length = past-numbers ∙ weigh-passed _ _ (false-is (le-ltb 8192 (length (written r words)) fits))
 
         -- row 13
-        pub writes-short : length sheet < length (written r words) → Writes (NotWritten (record { number = 13; place = 1 })) sheet
+        pub writes-short : length sheet < length (written r words) → Writes (refusedWriting 13 1) sheet
         writes-short h = refuses 13 1 (past-length ∙ weigh-held _ _ (true-is (lt-ltb (length sheet) (length (written r words)) h)))
 
         -- no row
@@ -111,3 +110,8 @@ module _ (r : Request) (words sheet : List ℕ) where
         writes-sheet h =
             let w : weigh rows ≡ clear = past-length ∙ weigh-passed _ _ (false-is (le-ltb (length sheet) (length (written r words)) h)) ∙ weigh-none in
             record { says = rw w refl; bytes = rw w refl }
+
+  -- ---- two answers that the promise allows are the same
+
+  pub writes-once : (v w : Writing) (x y : List ℕ) → Writes v x → Writes w y → (v ≡ w) × (x ≡ y)
+  writes-once v w x y a b = (writing-said-once v w (a .says ∙ sym (b .says)), a .bytes ∙ sym (b .bytes))

@@ -7,8 +7,10 @@ use lib.Dec.{ltb}
 use Rattle.words.specs.Pieces.{write}
 use Rattle.words.specs.Rows.{Row, weigh}
 use Rattle.request.specs.declared.Request.{Request}
+use Rattle.sheet.specs.declared.Outcome.{Outcome}
+use Rattle.sheet.specs.declared.Outcome.the-variants.{Sheet, Refused}
 use Rattle.sheet.specs.Grammar.{Contents, whole, broken, sheetOf}
-use Rattle.sheet.specs.Answer.{told, unlessRefused}
+use Rattle.sheet.specs.Answer.{refusalSaid, told, unlessRefused}
 
 -- whether the form is broken
 abbrev pub isBroken : Contents → Bool
@@ -54,6 +56,11 @@ readerRows s room =
     -- "13: lent buffer too short"
     ∷ record { number = 13; holds = ltb room (length (wordsOf (sheetOf s))); place = 1 }
     ∷ []
+
+-- a sheet has no number (0), no place (0) and the count of its arc words; a refusal its number and place
+abbrev pub said : Outcome → List ℕ
+said (Sheet n) = 0 ∷ 0 ∷ n ∷ []
+said (Refused r) = refusalSaid r
 
 -- the answer: the count of arc words, or the first refusal
 unfoldable pub readSays : List ℕ → ℕ → List ℕ

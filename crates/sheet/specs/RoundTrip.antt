@@ -9,9 +9,8 @@ use Rattle.words.specs.Pieces.{write}
 use Rattle.request.specs.declared.Request.{Request}
 use Rattle.sheet.specs.declared.Outcome.the-variants.{Sheet}
 use Rattle.sheet.specs.declared.Writing.the-variants.{Bytes}
-use Rattle.sheet.specs.Answer.{said, writingSaid}
-use Rattle.sheet.specs.Reader.{readSays, readRequest, arcsAfter}
-use Rattle.sheet.specs.Writer.{writeSays, sheetAfter}
+use Rattle.sheet.specs.Reader.{said, readSays, readRequest, arcsAfter}
+use Rattle.sheet.specs.Writer.{writingSaid, writeSays, sheetAfter}
 
 -- "A sheet that is read and written back gives the same bytes": into any bytes that are enough for it
 abbrev pub SameBytes : Type 0

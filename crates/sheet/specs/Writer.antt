@@ -9,8 +9,10 @@ use Rattle.words.specs.Pieces.{write}
 use Rattle.words.specs.Rows.{Row, weigh}
 use Rattle.request.specs.declared.Request.{Request}
 use Rattle.text.specs.Number.{anyOver}
+use Rattle.sheet.specs.declared.Writing.{Writing}
+use Rattle.sheet.specs.declared.Writing.the-variants.{Bytes, Refused}
 use Rattle.sheet.specs.Rendering.{sheetText}
-use Rattle.sheet.specs.Answer.{told, unlessRefused}
+use Rattle.sheet.specs.Answer.{refusalSaid, told, unlessRefused}
 
 -- "source, K, then p and q", of both ratios
 abbrev pub askNumbers : Request → List ℕ
@@ -32,6 +34,13 @@ written r words = sheetText (r .nodes) (r .criteria) (length words / (r .criteri
 abbrev pub arcsAmiss : ℕ → List ℕ → Bool
 arcsAmiss d words = not (eqb (length words % (d + 2)) 0) || ltb 512 (length words / (d + 2))
 
+-- d is 2 or 3 and the words are at most 512 arcs of d + 2 words: rows 3 and 7 do not hold
+pub record Ranged (d : ℕ) (words : List ℕ) : Type 0 where
+  pub at-least : 2 ≤ d
+  pub at-most : d ≤ 3
+  pub multiple : length words % (d + 2) ≡ 0
+  pub arcs : length words / (d + 2) ≤ 512
+
 -- the writer's table for a request and arc words, with room for so many bytes
 abbrev pub writerRows : Request → List ℕ → ℕ → List Row
 writerRows r words room =
@@ -47,6 +56,15 @@ writerRows r words room =
     ∷ record { number = 13; holds = ltb room (length (written r words)); place = 1 }
     ∷ []
 
+-- a sheet that is written has no number (0), no place (0) and its length in bytes; a refusal its number and place
+abbrev pub writingSaid : Writing → List ℕ
+writingSaid (Bytes n) = 0 ∷ 0 ∷ n ∷ []
+writingSaid (Refused r) = refusalSaid r
+
+-- a refusal
+abbrev pub refusedWriting : ℕ → ℕ → Writing
+refusedWriting number place = Refused (record { number = number; place = place })
+
 -- the answer: the sheet's length in bytes, or the first refusal
 unfoldable pub writeSays : Request → List ℕ → ℕ → List ℕ
 writeSays r words room = told (weigh (writerRows r words room)) (length (written r words))
@@ -54,10 +72,3 @@ writeSays r words room = told (weigh (writerRows r words room)) (length (written
 -- the lent sheet bytes afterwards: the sheet in front where it is written, and on a refusal as they came
 unfoldable pub sheetAfter : Request → List ℕ → List ℕ → List ℕ
 sheetAfter r words sheet = unlessRefused (weigh (writerRows r words (length sheet))) (write sheet 0 (written r words)) sheet
-
--- d is 2 or 3 and the words are at most 512 arcs of d + 2 words: rows 3 and 7 do not hold
-pub record Ranged (d : ℕ) (words : List ℕ) : Type 0 where
-  pub at-least : 2 ≤ d
-  pub at-most : d ≤ 3
-  pub multiple : length words % (d + 2) ≡ 0
-  pub arcs : length words / (d + 2) ≤ 512

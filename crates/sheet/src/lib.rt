@@ -22,5 +22,5 @@ pub struct Reading {
 // A sheet was written, of so many bytes; or a refusal.
 pub enum Writing {
     Bytes(u32),
-    NotWritten(Refusal),
+    Refused(Refusal),
 }

@@ -6,9 +6,8 @@ ghost use lib.ListN.{length, drop};
 ghost use Rattle.words.specs.Pieces.{write};
 ghost use Rattle.text.specs.Line.{lineOf, answerOf, takenOf};
 ghost use Rattle.sheet.specs.Grammar.{tab, arcWord, arcLine, askLine, kindOf, linesFrom, sheetOf};
-ghost use Rattle.sheet.specs.Inside.{isGood, askSaid, sortOf, formOf, requestFor, refusedReading};
-ghost use Rattle.sheet.specs.Answer.{said};
-ghost use Rattle.sheet.specs.Reader.{wordsOf, readSays, readRequest, arcsAfter};
+ghost use Rattle.sheet.specs.Inside.{isGood, askKind, lineKind, formOf, requestFor, refusedReading};
+ghost use Rattle.sheet.specs.Reader.{said, wordsOf, readSays, readRequest, arcsAfter};
 use crate::Outcome;
 use crate::Reading;
 use request::Refusal;
@@ -20,7 +19,7 @@ const TAB: u8 = 9;
 const LF: u8 = 10;
 
 // The numbers of an `ask` line; a ratio that is not there is 0 over 1.
-pub struct Ask {
+struct Asked {
     pub source: u32,
     pub hops: u32,
     pub p1: u32,
@@ -29,28 +28,23 @@ pub struct Ask {
     pub q2: u32,
 }
 
-pub enum AskLine {
-    Asks(Ask),
-    NoAsk,
-}
-
-// A line after the first.
-pub enum Sort {
+// What a line after the first is.
+enum LineKind {
     Arc,
-    Last(Ask),
+    Ask(Asked),
     Neither,
 }
 
 // All that a sheet says but its arcs' words.
-pub struct Form {
+struct Form {
     pub nodes: u32,
     pub criteria: usize,
     pub arcs: usize,
-    pub ask: Ask,
+    pub ask: Asked,
 }
 
 // A whole sheet, or its first bad line.
-pub enum Checked {
+enum Checked {
     Whole(Form),
     Broken(u32),
 }
@@ -76,15 +70,15 @@ fn is_arc(line: &[u8], d: usize) -> bool
     }
 }
 
-// What the line asks, if it is an `ask` line.
-fn ask_line(line: &[u8], d: usize) -> AskLine
+// The ask that a line is, or neither.
+fn ask_line(line: &[u8], d: usize) -> LineKind
     requires { ⌜ (2 ≤ d) × (d ≤ 3) ⌝ }
-    ensures { λ r. ⌜ r ≡ askSaid (askLine d (now (line .entry))) ⌝ }
+    ensures { λ r. ⌜ r ≡ askKind (askLine d (now (line .entry))) ⌝ }
 {
     let mut v = [0u32, 0, 0, 0, 0, 1];
     let n = d * 2;
     match text::word_line(line, b"ask", TAB, &mut v[..n]) {
-        Line::Good => AskLine::Asks(Ask {
+        Line::Good => LineKind::Ask(Asked {
             source: v[0],
             hops: v[1],
             p1: v[2],
@@ -92,24 +86,21 @@ fn ask_line(line: &[u8], d: usize) -> AskLine
             p2: v[4],
             q2: v[5],
         }),
-        Line::Bad(_) => AskLine::NoAsk,
+        Line::Bad(_) => LineKind::Neither,
     }
 }
 
 // What a line is before which m arcs stand.
-fn sort_of(line: &[u8], d: usize, m: usize) -> Sort
+fn kind_of(line: &[u8], d: usize, m: usize) -> LineKind
     requires { ⌜ (2 ≤ d) × (d ≤ 3) ⌝ }
-    ensures { λ r. ⌜ r ≡ sortOf (kindOf d m (now (line .entry))) ⌝ }
+    ensures { λ r. ⌜ r ≡ lineKind (kindOf d m (now (line .entry))) ⌝ }
 {
     if m < 512 {
         if is_arc(line, d) {
-            return Sort::Arc;
+            return LineKind::Arc;
         }
     }
-    match ask_line(line, d) {
-        AskLine::Asks(a) => Sort::Last(a),
-        AskLine::NoAsk => Sort::Neither,
-    }
+    ask_line(line, d)
 }
 
 // The lines from byte `from` on, where line 2 begins: each is a stretch of the sheet of its own.
@@ -127,13 +118,13 @@ fn check_lines(sheet: &[u8], from: usize, nodes: u32, d: usize) -> Checked
         if sheet.len() <= e {
             return Checked::Broken(k);
         }
-        match sort_of(line, d, m) {
-            Sort::Arc => {
+        match kind_of(line, d, m) {
+            LineKind::Arc => {
                 m += 1;
                 k += 1;
                 at = e + 1;
             }
-            Sort::Last(ask) => {
+            LineKind::Ask(ask) => {
                 if e + 1 == sheet.len() {
                     return Checked::Whole(Form {
                         nodes,
@@ -144,7 +135,7 @@ fn check_lines(sheet: &[u8], from: usize, nodes: u32, d: usize) -> Checked
                 }
                 return Checked::Broken(k + 1);
             }
-            Sort::Neither => {
+            LineKind::Neither => {
                 return Checked::Broken(k);
             }
         }

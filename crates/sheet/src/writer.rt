@@ -7,8 +7,7 @@ ghost use Rattle.text.specs.Number.{anyOver};
 ghost use Rattle.text.specs.Line.{lineText};
 ghost use Rattle.sheet.specs.Grammar.{tab, arcWord};
 ghost use Rattle.sheet.specs.Rendering.{arcLines};
-ghost use Rattle.sheet.specs.Answer.{writingSaid};
-ghost use Rattle.sheet.specs.Writer.{askNumbers, numbersOf, written, writeSays, sheetAfter, Ranged};
+ghost use Rattle.sheet.specs.Writer.{writingSaid, refusedWriting, askNumbers, numbersOf, written, writeSays, sheetAfter, Ranged};
 use crate::Writing;
 use request::Refusal;
 use request::Request;
@@ -105,54 +104,40 @@ fn put_sheet(request: Request, arcs: &[u32], sheet: &mut [u8])
     text::put_line(sheet, b, b"ask", TAB, &v[..n]);
 }
 
+// A refusal.
+fn refusal(number: u32, place: u32) -> Writing
+    ensures { λ r. ⌜ r ≡ refusedWriting number place ⌝ }
+{
+    Writing::Refused(Refusal { number, place })
+}
+
 // Writes a sheet: its bytes at the front of the lent bytes.
 pub fn write(request: Request, arcs: &[u32], sheet: &mut [u8]) -> Writing
     ensures { λ r. ⌜ writingSaid r ≡ writeSays request (now (arcs .entry)) (length (now (sheet .entry))) ⌝ }
     ensures { λ _. ⌜ now (sheet .exit) ≡ sheetAfter request (now (arcs .entry)) (now (sheet .entry)) ⌝ }
 {
     if request.criteria < 2 {
-        return Writing::NotWritten(Refusal {
-            number: 3,
-            place: 0,
-        });
+        return refusal(3, 0);
     }
     if 3 < request.criteria {
-        return Writing::NotWritten(Refusal {
-            number: 3,
-            place: 0,
-        });
+        return refusal(3, 0);
     }
     let w = request.criteria as usize + 2;
     if arcs.len() % w != 0 {
-        return Writing::NotWritten(Refusal {
-            number: 7,
-            place: 0,
-        });
+        return refusal(7, 0);
     }
     if 512 < arcs.len() / w {
-        return Writing::NotWritten(Refusal {
-            number: 7,
-            place: 0,
-        });
+        return refusal(7, 0);
     }
     if over(request, arcs) {
-        return Writing::NotWritten(Refusal {
-            number: 11,
-            place: 0,
-        });
+        return refusal(11, 0);
     }
     let n = sheet_length(request, arcs);
     if 8192 < n {
-        return Writing::NotWritten(Refusal {
-            number: 12,
-            place: 0,
-        });
+        return refusal(12, 0);
     }
     if sheet.len() < n {
-        return Writing::NotWritten(Refusal {
-            number: 13,
-            place: 1,
-        });
+        return refusal(13, 1);
     }
     put_sheet(request, arcs, sheet);
     Writing::Bytes(n as u32)

@@ -1,11 +1,11 @@
 -- `put_number`: one digit, or the digits of a tenth and one digit after them. The measure is the number. Assumes nothing.
+use Prim.Native.Nat.{ℕ, _<_}
 use native.Mathlib.Omega.{arith}
 use borrow.Author.Needs.{needs}
+use borrow.Fn.PlainCycle.{Measures, is, falls, and}
 use Rattle.text.proofs.Digits.{width-small, width-more}
 use Rattle.text.proofs.Puts.{put-small, put-more}
-use Prim.Native.Nat.{ℕ, _<_}
 use borrow.Fn.Kinds.{In}
-use borrow.Fn.PlainCycle.{Measures, is, falls, and}
 use Rattle.text.proofs.put_number.Reads as put-number
 use Rattle.text.proofs.put_number.Kinds as put-number-kinds
 use Rattle.text.proofs.+put_number.Lts-put_number as put-number-lts

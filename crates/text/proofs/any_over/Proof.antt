@@ -3,9 +3,9 @@ use Prim.Native.Nat.{_-_, _≤_}
 use mathlib.Core.Path.{_≡_, refl, sym, _∙_}
 use native.Mathlib.Omega.{arith}
 use lib.ListN.{length, drop}
+use borrow.Author.Needs.{needs}
 use Rattle.text.specs.Number.{anyOver}
 use Rattle.text.proofs.Numbers.{over-here, over-on, over-none}
-use borrow.Author.Needs.{needs}
 use Rattle.text.proofs.any_over.Statement.{statement}
 use Rattle.text.proofs.any_over.Tie as tie
 

@@ -3,9 +3,9 @@ use Prim.Native.Nat.{ℕ, _≤_, _-_, _+_, _<_}
 use mathlib.Core.Path.{_≡_, refl, sym, _∙_, ap}
 use mathlib.Core.List.{List, [], _∷_, _++_, append-nil, append-assoc}
 use native.Mathlib.Omega.{arith}
-use borrow.Author.Needs.{needs}
 use lib.ListN.{length, take, drop, getD}
 use lib.Seq.{length-take-le, take-all}
+use borrow.Author.Needs.{needs}
 use Rattle.text.specs.Field.{before}
 use Rattle.text.proofs.Fields.{before-end, before-stop, before-on, take-next}
 use Rattle.text.proofs.cut.Statement.{statement}

@@ -4,6 +4,7 @@ use mathlib.Core.Path.{_≡_, sym, _∙_, ap}
 use mathlib.Core.List.{List}
 use native.Mathlib.Omega.{arith}
 use lib.ListN.{length, drop, length-drop}
+use borrow.Author.Needs.{needs}
 use Rattle.text.specs.declared.Number.the-variants.{Fault}
 use Rattle.text.specs.Field.{before}
 use Rattle.text.specs.Number.{number}
@@ -11,7 +12,6 @@ use Rattle.text.specs.Line.{item, placed}
 use Rattle.text.proofs.Fields.{rest-is, before-length}
 use Rattle.text.proofs.Numbers.{number-fault}
 use Rattle.text.proofs.Lines.{item-end, item-other, item-read}
-use borrow.Author.Needs.{needs}
 use Rattle.text.proofs.item_at.Statement.{statement}
 use Rattle.text.proofs.item_at.Tie as tie
 

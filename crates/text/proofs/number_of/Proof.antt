@@ -2,8 +2,8 @@
 use Prim.Native.Nat.{_≤_, _-_}
 use mathlib.Core.Path.{_≡_, sym, _∙_}
 use native.Mathlib.Omega.{arith}
-use borrow.Author.Needs.{needs}
 use lib.ListN.{length, drop}
+use borrow.Author.Needs.{needs}
 use Rattle.text.specs.Number.{number, digitsAfter}
 use Rattle.text.proofs.Numbers.{number-empty, number-first, number-zero-alone, number-zero-more, digits-end, digits-low, digits-high, digits-many, digits-on}
 use Rattle.text.proofs.number_of.Statement.{statement}

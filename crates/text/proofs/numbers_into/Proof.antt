@@ -3,8 +3,8 @@ use Prim.Native.Nat.{_-_}
 use mathlib.Core.Path.{sym, _∙_}
 use native.Mathlib.Omega.{arith}
 use lib.ListN.{length, length-set}
-use Rattle.text.proofs.Lines.{Reading, reading-start, reading-on, reading-wrong, reading-over, reading-end}
 use borrow.Author.Needs.{needs}
+use Rattle.text.proofs.Lines.{Reading, reading-start, reading-on, reading-wrong, reading-over, reading-end}
 use Rattle.text.proofs.numbers_into.Statement.{statement}
 use Rattle.text.proofs.numbers_into.Tie as tie
 

@@ -1,8 +1,8 @@
 -- `put_bytes`: the first i bytes are written. Assumes nothing.
 use Prim.Native.Nat.{ℕ, _≤_, _-_, _+_}
 use mathlib.Core.Path.{_≡_, refl, sym, _∙_, ap}
-use native.Mathlib.Omega.{arith}
 use mathlib.Core.List.{List}
+use native.Mathlib.Omega.{arith}
 use lib.ListN.{length, take, set, getD, length-set}
 use lib.Seq.{take-all}
 use Rattle.words.specs.Pieces.{write}

@@ -1,13 +1,13 @@
 -- `put_numbers`: the first i numbers are written, each after sep. Assumes nothing.
 use Prim.Native.Nat.{ℕ, _≤_, _-_, _+_}
 use mathlib.Core.Path.{_≡_, refl, _∙_, ap}
-use native.Mathlib.Omega.{arith}
-use borrow.Author.Needs.{needs}
 use mathlib.Core.List.{List}
+use native.Mathlib.Omega.{arith}
 use lib.ListN.{length, take, set, getD, length-set}
-use Rattle.text.specs.Number.{digits}
 use lib.Seq.{take-all}
+use borrow.Author.Needs.{needs}
 use Rattle.words.specs.Pieces.{write}
+use Rattle.text.specs.Number.{digits}
 use Rattle.text.specs.Line.{parted}
 use Rattle.text.proofs.Puts.{parted-end, parted-room, parted-none, numbers-next}
 use Rattle.text.proofs.put_numbers.Statement.{statement}

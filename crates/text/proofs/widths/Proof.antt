@@ -4,10 +4,10 @@ use mathlib.Core.Path.{_≡_, ap, _∙_}
 use native.Mathlib.Omega.{arith}
 use lib.ListN.{length, take, getD}
 use lib.Seq.{take-all}
+use borrow.Author.Needs.{needs}
 use Rattle.text.specs.Line.{partedWidth}
 use Rattle.text.proofs.Digits.{width-word}
 use Rattle.text.proofs.Puts.{width-none, width-next}
-use borrow.Author.Needs.{needs}
 use Rattle.text.proofs.widths.Statement.{statement}
 use Rattle.text.proofs.widths.Tie as tie
 

@@ -1,6 +1,6 @@
 -- `word_line`: the word, then the numbers. Assumes nothing.
-use Rattle.text.proofs.Lines.{line-short, line-whole}
 use borrow.Author.Needs.{needs}
+use Rattle.text.proofs.Lines.{line-short, line-whole}
 use Rattle.text.proofs.word_line.Statement.{statement}
 use Rattle.text.proofs.word_line.Tie as tie
 

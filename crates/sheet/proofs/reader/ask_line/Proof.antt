@@ -5,13 +5,13 @@ use mathlib.Core.List.{[], _∷_}
 use native.Mathlib.Omega.{arith}
 use lib.ListN.{length, take}
 use lib.Seq.{length-take-le}
+use borrow.Author.Needs.{needs}
 use Rattle.text.specs.Field.{before}
 use Rattle.text.specs.Line.{takenOf}
 use Rattle.text.proofs.Written.{lineOf-was}
-use Rattle.sheet.specs.declared.reader.AskLine.the-variants.{Asks}
+use Rattle.sheet.specs.declared.reader.LineKind.the-variants.{Ask}
 use Rattle.sheet.specs.Grammar.{tab, askWord, askLine}
-use Rattle.sheet.specs.Inside.{askSaid}
-use borrow.Author.Needs.{needs}
+use Rattle.sheet.specs.Inside.{askKind}
 use Rattle.sheet.proofs.LineKinds.{told-good, told-bad, filled, padded-ask}
 use Rattle.sheet.proofs.reader.ask_line.Statement.{statement}
 use Rattle.sheet.proofs.reader.ask_line.Tie as tie
@@ -68,13 +68,13 @@ returns c =
     let k = lent-words d (s .pre .1) in
     let g = told-good askWord (d * 2) _ line _ (w .ensures .0) k (c .enum-told .given .1) in
     let e : w .last .1 .1 .1 .0 ≡ takenOf (askLine d line) = filled askWord (d * 2) line (takenOf (askLine d line)) _ _ k g (w .ensures .1) in
-    sym (ap askSaid g ∙ ap Asks (sym (padded-ask d (w .last .1 .1 .1 .0) (takenOf (askLine d line)) (s .pre .0) (s .pre .1) e (lineOf-was tab askWord (d * 2) line (takenOf (askLine d line)) g .1))))
+    sym (ap askKind g ∙ ap Ask (sym (padded-ask d (w .last .1 .1 .1 .0) (takenOf (askLine d line)) (s .pre .0) (s .pre .1) e (lineOf-was tab askWord (d * 2) line (takenOf (askLine d line)) g .1))))
 
 returns-2 : tie.Need-returns-2
 returns-2 c =
     let s = c .before .before .before .before .before .before .before in
     let w = c .before .before .before .word-line in
-    sym (ap askSaid (told-bad _ _ _ _ _ (w .ensures .0) (lent-words (s .args .d) (s .pre .1)) _ (c .enum-told2 .given .1)))
+    sym (ap askKind (told-bad _ _ _ _ _ (w .ensures .0) (lent-words (s .args .d) (s .pre .1)) _ (c .enum-told2 .given .1)))
 
 pub ask-line-spec : {M : Type 1} → statement M
 ask-line-spec = tie.close (tie.spec mul-n slice-aggregate-word-line array-borrow-prefix-v slice-aggregate-word-line-2 word-line-requires enum-told array-read-t14 array-read-t17 array-read-t20 array-read-t23 array-read-t26 array-read-t29 enum-told-2 returns returns-2)

@@ -4,13 +4,13 @@ use mathlib.Core.Path.{_≡_, refl, ap, sym, _∙_}
 use mathlib.Core.List.{List, [], _∷_}
 use native.Mathlib.Omega.{arith}
 use lib.ListN.{length, drop}
+use borrow.Author.Needs.{needs}
 use Rattle.text.specs.declared.Line.the-variants.{Good, Bad}
 use Rattle.text.specs.Field.{before}
 use Rattle.text.specs.Line.{Got, good, takenOf}
 use Rattle.text.proofs.Written.{lineOf-was}
 use Rattle.sheet.specs.Grammar.{tab, tracksWord, tracksLine, broken, afterFirst, sheetOf}
 use Rattle.sheet.specs.Inside.{formOf}
-use borrow.Author.Needs.{needs}
 use Rattle.sheet.proofs.LineKinds.{told-good, told-bad, filled}
 use Rattle.sheet.proofs.First.{sheet-loose, sheet-line, first-two, first-three, first-other}
 use Rattle.sheet.proofs.reader.check.Statement.{statement}

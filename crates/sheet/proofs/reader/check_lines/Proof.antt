@@ -4,12 +4,11 @@ use mathlib.Core.Path.{_≡_, refl, ap, sym, _∙_}
 use mathlib.Core.List.{List, []}
 use native.Mathlib.Omega.{arith}
 use lib.ListN.{length, drop, length-drop}
+use borrow.Author.Needs.{needs}
 use Rattle.text.specs.Field.{before}
-use Rattle.text.proofs.Fields.{before-length}
+use Rattle.text.proofs.Fields.{before-length, rest-is}
 use Rattle.sheet.specs.Grammar.{lf, linesFrom}
 use Rattle.sheet.specs.Inside.{formOf}
-use borrow.Author.Needs.{needs}
-use Rattle.text.proofs.Fields.{rest-is}
 use Rattle.sheet.proofs.Scan.{lines-last, lines-none, says-arc, says-neither, says-ask, says-more}
 use Rattle.sheet.proofs.reader.check_lines.Statement.{statement}
 use Rattle.sheet.proofs.reader.check_lines.Tie as tie
@@ -62,8 +61,8 @@ returns c =
     let l = loop-of (c .before) in
     sym (l .loop .inv .3 ∙ ap formOf (lines-last _ _ _ _ _ _ _ (line-is (c .before)) (omega arith) (c .if1 .taken)))
 
-sort-of-requires : tie.Need-sort-of-requires Inv-loop μ-loop
-sort-of-requires c κs = search needs
+kind-of-requires : tie.Need-kind-of-requires Inv-loop μ-loop
+kind-of-requires c κs = search needs
 
 enum-told : tie.Need-enum-told Inv-loop μ-loop
 enum-told c = search needs
@@ -90,7 +89,7 @@ loop-again c =
       omega arith,
       l .loop .inv .3
           ∙ says-arc (a .nodes) (a .d) (l .loop .m) (l .loop .k) (sheet-of p) (l .loop .at) (line-of p) (line-is p) (omega arith) (omega arith)
-          (sym (c .enum-told .given .1) ∙ c .before .before .sort-of .ensures),
+          (sym (c .enum-told .given .1) ∙ c .before .before .kind-of .ensures),
     )
 
 enum-known-ask : tie.Need-enum-known-ask Inv-loop μ-loop
@@ -106,7 +105,7 @@ returns-2 c =
     let a = l .before .before .args in
     sym (l .loop .inv .3
     ∙ says-ask (a .nodes) (a .d) (l .loop .m) (l .loop .k) (sheet-of p) (l .loop .at) (line-of p) (line-is p) (omega arith) (omega arith)
-    (c .before .before .ask .given .0 .0) (sym (c .before .before .ask .given .1) ∙ c .before .before .before .before .sort-of .ensures) (c .if2 .taken))
+    (c .before .before .ask .given .0 .0) (sym (c .before .before .ask .given .1) ∙ c .before .before .before .before .kind-of .ensures) (c .if2 .taken))
 
 add-t21 : tie.Need-add-t21 Inv-loop μ-loop
 add-t21 c = let s = c .before .before .before .before .before .before .before .before .before .before .before in omega (arith, s .pre)
@@ -118,7 +117,7 @@ returns-3 c =
     let a = l .before .before .args in
     sym (l .loop .inv .3
     ∙ says-more (a .nodes) (a .d) (l .loop .m) (l .loop .k) (sheet-of p) (l .loop .at) (line-of p) (line-is p) (omega arith) (omega arith)
-    (c .before .before .ask .given .0 .0) (sym (c .before .before .ask .given .1) ∙ c .before .before .before .before .sort-of .ensures) (c .if2 .left))
+    (c .before .before .ask .given .0 .0) (sym (c .before .before .ask .given .1) ∙ c .before .before .before .before .kind-of .ensures) (c .if2 .left))
 
 enum-told-2 : tie.Need-enum-told-2 Inv-loop μ-loop
 enum-told-2 c = search needs
@@ -130,10 +129,10 @@ returns-4 c =
     let a = l .before .before .args in
     sym (l .loop .inv .3
     ∙ says-neither (a .nodes) (a .d) (l .loop .m) (l .loop .k) (sheet-of p) (l .loop .at) (line-of p) (line-is p) (omega arith) (omega arith)
-    (sym (c .enum-told2 .given .1) ∙ c .before .before .sort-of .ensures))
+    (sym (c .enum-told2 .given .1) ∙ c .before .before .kind-of .ensures))
 
 returns-5 : tie.Need-returns-5 Inv-loop μ-loop
 returns-5 c = sym (c .before .loop .inv .3 ∙ ap formOf (lines-none _ _ _ _ _ _ (c .loop-test .left)))
 
 pub check-lines-spec : {M : Type 1} → statement M
-check-lines-spec = tie.close (tie.spec Inv-loop μ-loop loop-holds sub-rest part-rest-start part-rest-end cut-requires add-e returns sort-of-requires enum-told add-m add-k add-at loop-less loop-again enum-known-ask add-if2 returns-2 add-t21 returns-3 enum-told-2 returns-4 returns-5)
+check-lines-spec = tie.close (tie.spec Inv-loop μ-loop loop-holds sub-rest part-rest-start part-rest-end cut-requires add-e returns kind-of-requires enum-told add-m add-k add-at loop-less loop-again enum-known-ask add-if2 returns-2 add-t21 returns-3 enum-told-2 returns-4 returns-5)

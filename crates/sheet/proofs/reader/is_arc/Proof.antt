@@ -5,9 +5,9 @@ use mathlib.Core.List.{[], _∷_}
 use native.Mathlib.Omega.{arith}
 use lib.ListN.{length, take}
 use lib.Seq.{length-take-le}
+use borrow.Author.Needs.{needs}
 use Rattle.text.specs.Field.{before}
 use Rattle.sheet.specs.Inside.{isGood}
-use borrow.Author.Needs.{needs}
 use Rattle.sheet.proofs.LineKinds.{told-good, told-bad}
 use Rattle.sheet.proofs.reader.is_arc.Statement.{statement}
 use Rattle.sheet.proofs.reader.is_arc.Tie as tie

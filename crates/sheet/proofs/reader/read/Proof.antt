@@ -3,7 +3,9 @@ use Prim.Native.Nat.{ℕ, _+_, _*_, _≤_}
 use mathlib.Core.Path.{_≡_, ap, sym, _∙_}
 use mathlib.Core.List.{List}
 use native.Mathlib.Omega.{arith}
+use native.Mathlib.Nat.{mul-le-mul}
 use lib.ListN.{length}
+use borrow.Author.Needs.{needs}
 use Rattle.text.specs.Field.{before}
 use Rattle.sheet.specs.declared.reader.Form.{Form}
 use Rattle.sheet.specs.declared.reader.Checked.the-variants.{Whole}
@@ -11,10 +13,7 @@ use Rattle.sheet.specs.declared.Outcome.the-variants.{Sheet}
 use Rattle.sheet.specs.Grammar.{sheetOf}
 use Rattle.sheet.specs.Rendering.{Sheetable}
 use Rattle.sheet.specs.Inside.{formOf}
-use Rattle.sheet.specs.Answer.{said}
-use Rattle.sheet.specs.Reader.{wordsOf}
-use native.Mathlib.Nat.{mul-le-mul}
-use borrow.Author.Needs.{needs}
+use Rattle.sheet.specs.Reader.{said, wordsOf}
 use Rattle.sheet.proofs.Stores.{askedOf, form-request, form-sheetable}
 use Rattle.sheet.proofs.Answers.{reads-long, reads-broken, reads-short, reads-sheet}
 use Rattle.sheet.proofs.reader.read.Statement.{statement}

@@ -3,15 +3,14 @@ use Prim.Native.Nat.{ℕ, _+_, _-_, _≤_}
 use mathlib.Core.Path.{_≡_, ap, sym, _∙_}
 use native.Mathlib.Omega.{arith}
 use lib.ListN.{length, take}
+use borrow.Author.Needs.{needs}
 use Rattle.words.specs.Pieces.{write}
 use Rattle.words.proofs.Writes.{length-write}
 use Rattle.text.specs.Field.{before}
-use Rattle.text.proofs.Fields.{write-none}
+use Rattle.text.proofs.Fields.{write-none, rest-is}
 use Rattle.sheet.specs.Grammar.{lf, arcWord, sheetOf}
 use Rattle.sheet.specs.Rendering.{Sheetable}
 use Rattle.sheet.specs.Reader.{wordsOf}
-use borrow.Author.Needs.{needs}
-use Rattle.text.proofs.Fields.{rest-is}
 use Rattle.sheet.proofs.LineKinds.{filled}
 use Rattle.sheet.proofs.Stores.{askedOf, form-sheetable, Going, Starts, starts, Steps, steps, stored, mid-length, going-end}
 use Rattle.sheet.proofs.reader.store_arcs.Statement.{statement}

@@ -1,9 +1,9 @@
 -- `over`: N and d, then the arcs' words, then what is asked. Assumes nothing.
 use mathlib.Core.Path.{ap, sym, _∙_}
 use native.Mathlib.Omega.{arith}
+use borrow.Author.Needs.{needs}
 use Rattle.text.specs.Field.{before}
 use Rattle.text.specs.Number.{anyOver}
-use borrow.Author.Needs.{needs}
 use Rattle.sheet.proofs.Puts.{over-first, over-words, over-asks, asks-lent, asks-are}
 use Rattle.sheet.proofs.writer.over.Statement.{statement}
 use Rattle.sheet.proofs.writer.over.Tie as tie

@@ -5,12 +5,12 @@ use mathlib.Core.List.{List}
 use native.Mathlib.Omega.{arith}
 use native.Mathlib.Nat.{zero-add}
 use lib.ListN.{length}
+use borrow.Author.Needs.{needs}
 use Rattle.request.specs.declared.Request.{Request}
 use Rattle.text.specs.Field.{before}
 use Rattle.text.specs.Line.{lineText}
 use Rattle.sheet.specs.Grammar.{tab, askWord}
 use Rattle.sheet.specs.Writer.{written}
-use borrow.Author.Needs.{needs}
 use Rattle.sheet.proofs.Lengths.{whole-arcs}
 use Rattle.sheet.proofs.Puts.{asks-lent, asks-are, front, middle, back, written-long, written-put}
 use Rattle.sheet.proofs.writer.put_sheet.Statement.{statement}

@@ -2,9 +2,9 @@
 use Prim.Native.Nat.{_≤_}
 use mathlib.Core.Path.{ap}
 use native.Mathlib.Omega.{arith}
+use borrow.Author.Needs.{needs}
 use Rattle.text.specs.Field.{before}
 use Rattle.text.specs.Line.{partedWidth}
-use borrow.Author.Needs.{needs}
 use Rattle.sheet.proofs.Lengths.{words-few, written-length}
 use Rattle.sheet.proofs.Puts.{asks-lent, asks-are}
 use Rattle.sheet.proofs.writer.sheet_length.Statement.{statement}
