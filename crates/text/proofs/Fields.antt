@@ -1,13 +1,13 @@
 -- Stretches of bytes up to a byte, and words in common: how each goes on at an index, and where it is the front of a list. Assumes nothing.
 use Prim.Native.Nat.{ℕ, zero, suc, _+_, _-_, _≤_, _<_}
-use mathlib.Core.Path.{_≡_, refl, ap}
+use mathlib.Core.Path.{_≡_, refl, ap, sym, _∙_}
 use mathlib.Core.List.{List, [], _∷_, _++_}
 use mathlib.Core.Bool.{Bool, true, false, cond}
 use mathlib.Core.Logic.{_⊎_, inl, inr}
 use native.Mathlib.Omega.{arith}
 use native.Mathlib.Numerals.{add-one}
 use lib.ListN.{length, getD, set, take, drop, drop-of-length-le, length-drop}
-use lib.Seq.{drop-cons, take-suc, take-all}
+use lib.Seq.{drop-cons, take-suc, take-all, take-append-le}
 use lib.Dec.{ltb, eqb}
 use borrow.Author.Tests.{ltb-true, ltb-false, eq-eqb, ne-eqb, eqb-true}
 use Rattle.words.specs.Pieces.{write}
@@ -101,6 +101,30 @@ before-found b (c ∷ cs) h = go (eqb c b) refl (before-found b cs) h
     go true q ih h = ap (λ (x : ℕ). x ∷ cs) (eqb-true c b q)
     go false q ih h = ap (λ (l : List ℕ). c ∷ l) (ih (omega arith))
 
+-- a field that ends within cs does not turn on what follows cs; one that does not goes on
+pub before-inside : (b : ℕ) (cs u : List ℕ) → length (before b cs) < length cs → before b (cs ++ u) ≡ before b cs
+unfolding before
+before-inside b [] u h = absurd (omega arith)
+before-inside b (c ∷ cs) u h = go (eqb c b) (before-inside b cs u) h
+  where
+    go : (t : Bool) → (length (before b cs) < length cs → before b (cs ++ u) ≡ before b cs) → length (cond t [] (c ∷ before b cs)) < suc (length cs)
+        → cond t [] (c ∷ before b (cs ++ u)) ≡ cond t [] (c ∷ before b cs)
+    go true ih h = refl
+    go false ih h = ap (λ (l : List ℕ). c ∷ l) (ih (omega arith))
+
+pub before-through : (b : ℕ) (cs u : List ℕ) → length cs ≤ length (before b cs) → before b (cs ++ u) ≡ cs ++ before b u
+unfolding before
+before-through b [] u h = refl
+before-through b (c ∷ cs) u h = go (eqb c b) (before-through b cs u) h
+  where
+    go : (t : Bool) → (length cs ≤ length (before b cs) → before b (cs ++ u) ≡ cs ++ before b u) → suc (length cs) ≤ length (cond t [] (c ∷ before b cs))
+        → cond t [] (c ∷ before b (cs ++ u)) ≡ c ∷ (cs ++ before b u)
+    go true ih h = absurd (omega arith)
+    go false ih h = ap (λ (l : List ℕ). c ∷ l) (ih (omega arith))
+
+pub take-before : (b i : ℕ) (s : List ℕ) → i ≤ length (before b s) → take i s ≡ take i (before b s)
+take-before b i s h = ap (take i) (sym (before-split b s)) ∙ take-append-le i (before b s) (drop (length (before b s)) s) h
+
 -- ---- bytes in common with a word, at index i
 
 module _ (i : ℕ) (w l : List ℕ) where
@@ -137,3 +161,48 @@ common-was (x ∷ w) (c ∷ l) h = go (eqb c x) refl (common-was w l) h
         → suc (length w) ≤ cond t (common w l + 1) 0 → c ∷ l ≡ x ∷ (w ++ drop (length w) l)
     go true q ih h = rw (eqb-true c x q) (ap (λ (r : List ℕ). x ∷ r) (ih (omega arith)))
     go false q ih h = absurd (omega arith)
+
+-- ---- bytes in common with a word, where the line goes on otherwise
+
+pub common-local : (w p u u′ : List ℕ) → common w (p ++ u) < length w → common w (p ++ u) < length p → common w (p ++ u′) ≡ common w (p ++ u)
+unfolding common
+common-local [] p u u′ h l = refl
+common-local (x ∷ w) [] u u′ h l = absurd (omega arith)
+common-local (x ∷ w) (c ∷ p) u u′ h l = go (eqb c x) (common-local w p u u′) h l
+  where
+    go : (t : Bool) → (common w (p ++ u) < length w → common w (p ++ u) < length p → common w (p ++ u′) ≡ common w (p ++ u))
+        → cond t (common w (p ++ u) + 1) 0 < suc (length w) → cond t (common w (p ++ u) + 1) 0 < suc (length p)
+        → cond t (common w (p ++ u′) + 1) 0 ≡ cond t (common w (p ++ u) + 1) 0
+    go true ih h l = ap (λ (i : ℕ). i + 1) (ih (omega arith) (omega arith))
+    go false ih h l = refl
+
+pub common-whole : (w p u u′ : List ℕ) → length w ≤ length p → length w ≤ common w (p ++ u) → length w ≤ common w (p ++ u′)
+unfolding common
+common-whole [] p u u′ l h = omega arith
+common-whole (x ∷ w) [] u u′ l h = absurd (omega arith)
+common-whole (x ∷ w) (c ∷ p) u u′ l h = go (eqb c x) (common-whole w p u u′) h
+  where
+    go : (t : Bool) → (length w ≤ length p → length w ≤ common w (p ++ u) → length w ≤ common w (p ++ u′))
+        → suc (length w) ≤ cond t (common w (p ++ u) + 1) 0 → suc (length w) ≤ cond t (common w (p ++ u′) + 1) 0
+    go true ih h = let k = ih (omega arith) (omega arith) in omega arith
+    go false ih h = absurd (omega arith)
+
+pub common-take : (w line : List ℕ) → take (common w line) line ≡ take (common w line) w
+unfolding common
+common-take [] line = refl
+common-take (x ∷ w) [] = refl
+common-take (x ∷ w) (c ∷ l) = go (eqb c x) refl (common-take w l)
+  where
+    go : (t : Bool) → eqb c x ≡ t → take (common w l) l ≡ take (common w l) w → take (cond t (common w l + 1) 0) (c ∷ l) ≡ take (cond t (common w l + 1) 0) (x ∷ w)
+    go true q ih = rw (add-one (common w l), eqb-true c x q) (ap (λ (r : List ℕ). x ∷ r) ih)
+    go false q ih = refl
+
+pub common-most : (w line : List ℕ) → common w line ≤ length line
+unfolding common
+common-most [] line = omega arith
+common-most (x ∷ w) [] = omega arith
+common-most (x ∷ w) (c ∷ l) = go (eqb c x) (common-most w l)
+  where
+    go : (t : Bool) → common w l ≤ length l → cond t (common w l + 1) 0 ≤ suc (length l)
+    go true h = omega arith
+    go false h = omega arith

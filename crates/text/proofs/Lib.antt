@@ -4,3 +4,6 @@ pub mod Digits
 pub mod Lines
 pub mod Written
 pub mod Puts
+pub mod NumberFaults
+pub mod ItemFaults
+pub mod LineFaults

@@ -65,13 +65,13 @@ module _ (sep : ℕ) (low : sep < 48) where
 -- ---- write after read
 
 -- what is left of a line begins with sep and the digits of v, and e is the byte after them
-record Placed (sep at v e : ℕ) (r : List ℕ) : Type 0 where
+pub record Placed (sep at v e : ℕ) (r : List ℕ) : Type 0 where
   pub rest : List ℕ
   pub so : r ≡ sep ∷ (digits v ++ rest)
   pub after : e ≡ at + 1 + length (digits v)
   pub small : v ≤ largest
 
-item-was : (sep at v e : ℕ) (r : List ℕ) → item sep at r ≡ Found v e → Placed sep at v e r
+pub item-was : (sep at v e : ℕ) (r : List ℕ) → item sep at r ≡ Found v e → Placed sep at v e r
 unfolding item
 item-was sep at v e [] h = let z : _≡_ {A = ℕ} 0 1 = cc in absurd (omega arith)
 item-was sep at v e (c ∷ cs) h = go (eqb c sep) refl (number (before sep cs)) refl h
