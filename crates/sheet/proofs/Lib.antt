@@ -2,6 +2,7 @@ pub mod LineKinds
 pub mod Scan
 pub mod Arcs
 pub mod First
+pub mod Cuts
 pub mod Stores
 pub mod Answers
 pub mod Lengths
@@ -12,3 +13,4 @@ pub mod Accepted
 pub mod Clear
 pub mod RoundTrips
 pub mod Examples
+pub mod FirstBad

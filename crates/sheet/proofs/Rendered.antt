@@ -5,10 +5,8 @@ use mathlib.Core.List.{List, [], _∷_, _++_, append-assoc, append-nil}
 use mathlib.Core.Bool.{Bool, true, false, cond, _||_}
 use mathlib.Core.Logic.{_⊎_, inl, inr}
 use native.Mathlib.Omega.{arith}
-use native.Mathlib.Numerals.{add-one}
 use native.Mathlib.Nat.{zero-mul, zero-add, suc-mul}
-use lib.ListN.{length, take, drop, length-append, length-drop, length-take, take-append-drop}
-use lib.Seq.{drop-append-add}
+use lib.ListN.{length, take, drop, length-drop, length-take, take-append-drop}
 use lib.Dec.{ltb, eqb}
 use borrow.Author.Tests.{lt-ltb, eq-eqb, eqb-false}
 use Rattle.words.specs.Bounds.{AtMost}
@@ -20,8 +18,7 @@ use Rattle.text.proofs.Fields.{lt-or-le, before-pass, before-first}
 use Rattle.text.proofs.Written.{before-digits, lineOf-parted}
 use Rattle.sheet.specs.Grammar.{lf, tab, tracksWord, arcWord, askWord, anArc, anAsk, orAsk, arcOr, kindOf, whole, broken, judge, linesFrom, sheetOf}
 use Rattle.sheet.specs.Rendering.{arcLines, sheetText, Sheetable}
-use Rattle.sheet.proofs.Scan.{lines-line}
-use Rattle.sheet.proofs.First.{sheet-line}
+use Rattle.sheet.proofs.Cuts.{lines-cut, sheet-cut}
 
 -- ---- no LF in a line as it is written, but at its end
 
@@ -65,16 +62,8 @@ module _ (w vs t : List ℕ) (p : Plain w) where
   pub line-cut : before lf (line ++ (lf ∷ t)) ≡ line
   line-cut = plain-line w vs p (lf ∷ t) ∙ rw (before-first lf t) (append-nil line)
 
-  pub line-short : length line < length (line ++ (lf ∷ t))
-  line-short = rw (length-append line (lf ∷ t)) (omega arith)
-
-  line-rest : drop (suc (length line)) (line ++ (lf ∷ t)) ≡ t
-  line-rest = rw (← add-one (length line)) (drop-append-add line (lf ∷ t) 1)
-
   pub lines-text : (n d m k : ℕ) → linesFrom n d m k [] (lineText tab w vs ++ t) ≡ judge (kindOf d m line) n d m k t (linesFrom n d (m + 1) (k + 1) [] t)
-  lines-text n d m k =
-      let h : length (before lf (line ++ (lf ∷ t))) < length (line ++ (lf ∷ t)) = rw line-cut line-short in
-      ap (linesFrom n d m k []) line-then ∙ lines-line n d m k [] (line ++ (lf ∷ t)) h ∙ rw (line-cut, line-rest)
+  lines-text n d m k = ap (linesFrom n d m k []) line-then ∙ lines-cut line t line-cut n d m k
 
 -- ---- the kind of a line as it is written
 
@@ -96,13 +85,15 @@ kind-of-ask d m vs l s = rw (ask-no-arc (d + 2) (parted tab vs), ← l, lineOf-p
 
 -- ---- the arcs and the ask
 
+pub lines-ask : (n d m k : ℕ) (asks : List ℕ) → length asks ≡ d * 2 → AtMost largest asks → linesFrom n d m k [] (lineText tab askWord asks) ≡ whole n d m [] asks
+lines-ask n d m k asks a t =
+    ap (linesFrom n d m k []) (sym (append-nil (lineText tab askWord asks)))
+    ∙ lines-text askWord asks [] plain-ask n d m k ∙ rw (kind-of-ask d m asks a t)
+
 lines-written : (n d i k j : ℕ) (words asks : List ℕ) → i + j ≤ 512 → length words ≡ j * (d + 2) → length asks ≡ d * 2 → AtMost largest words → AtMost largest asks
     → linesFrom n d i k [] (arcLines (d + 2) j words ++ lineText tab askWord asks) ≡ whole n d (i + j) words asks
 unfolding arcLines
-lines-written n d i k zero words asks h l a s t =
-    let e : length words ≡ 0 = l ∙ zero-mul (d + 2) in
-    ap (linesFrom n d i k []) (sym (append-nil (lineText tab askWord asks)))
-    ∙ lines-text askWord asks [] plain-ask n d i k ∙ rw (kind-of-ask d i asks a t) (none words e)
+lines-written n d i k zero words asks h l a s t = lines-ask n d i k asks a t ∙ none words (l ∙ zero-mul (d + 2))
   where
     none : (words : List ℕ) → length words ≡ 0 → whole n d i [] asks ≡ whole n d (i + 0) words asks
     none [] e = let q : i + 0 ≡ i = omega arith in rw q
@@ -126,10 +117,9 @@ sheet-written n d m words asks c =
     let two = n ∷ d ∷ [] in
     let l = tracksWord ++ parted tab two in
     let small : AtMost largest two = atMost-cons largest n (d ∷ []) (c .nodes-small) (atMost-cons largest d [] (omega (arith, c .at-most)) (atMost-none largest)) in
-    let e : drop (length l + 1) (l ++ (lf ∷ rest)) ≡ rest = drop-append-add l (lf ∷ rest) 1 in
     ap sheetOf (line-then tracksWord two rest plain-tracks)
-    ∙ sheet-line (l ++ (lf ∷ rest)) l (sym (line-cut tracksWord two rest plain-tracks)) (line-short tracksWord two rest plain-tracks)
-    ∙ rw (e, lineOf-parted tab (omega arith) tracksWord two small) (two-or-three (lt-or-le d 3))
+    ∙ sheet-cut l rest (line-cut tracksWord two rest plain-tracks)
+    ∙ rw (lineOf-parted tab (omega arith) tracksWord two small) (two-or-three (lt-or-le d 3))
   where
     body : linesFrom n d 0 2 [] (arcLines (d + 2) m words ++ lineText tab askWord asks) ≡ whole n d m words asks
     body =

@@ -47,10 +47,12 @@ pub data Kind : Type 0 where
   anAsk : List ℕ → Kind
   neither : Kind
 
+-- an ask, if the line is a good one
 abbrev pub orAsk : Got → Kind
 orAsk (good vs) = anAsk vs
 orAsk (bad j vs) = neither
 
+-- an arc, if the line is a good one, else what it is otherwise
 abbrev pub arcOr : Got → Kind → Kind
 arcOr (good vs) k = anArc vs
 arcOr (bad j vs) k = k

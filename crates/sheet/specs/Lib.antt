@@ -5,3 +5,4 @@ pub mod Answer
 pub mod Reader
 pub mod Writer
 pub mod RoundTrip
+pub mod FirstBad

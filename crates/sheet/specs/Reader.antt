@@ -42,6 +42,7 @@ requestFrom n d asks =
 abbrev pub noRequest : Request
 noRequest = record { nodes = 0; criteria = 0; source = 0; hops = 0; ratios = 0 ∷ 0 ∷ 0 ∷ 0 ∷ [] }
 
+-- the request of a sheet
 abbrev pub requestOf : Contents → Request
 requestOf (whole n d m words asks) = requestFrom n d asks
 requestOf (broken k) = noRequest

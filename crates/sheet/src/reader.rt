@@ -112,6 +112,7 @@ fn check_lines(sheet: &[u8], from: usize, nodes: u32, d: usize) -> Checked
     let mut k: u32 = 2;
     let mut m = 0;
     while at < sheet.len() {
+        // what stands after the last LF, up to the next
         let rest = &sheet[at..];
         let line = text::cut(rest, LF);
         let e = at + line.len();
@@ -157,6 +158,7 @@ fn check(sheet: &[u8]) -> Checked
     match text::word_line(line, b"tracks", TAB, &mut v) {
         Line::Bad(_) => Checked::Broken(1),
         Line::Good => {
+            // d must be 2 or 3
             if v[1] == 2 {
                 return check_lines(sheet, e + 1, v[0], 2);
             }
@@ -168,7 +170,7 @@ fn check(sheet: &[u8]) -> Checked
     }
 }
 
-// Stores the words of the arcs of a sheet that is whole, and has this form.
+// Stores the words of the arcs of a sheet that is whole, and has this form: its next m lines are arcs.
 fn store_arcs(sheet: &[u8], form: Form, arcs: &mut [u32])
     requires { ⌜ (formOf (sheetOf (now sheet)) ≡ Checked.Whole form) × (length (wordsOf (sheetOf (now sheet))) ≤ length (now arcs)) ⌝ }
     ensures { λ _. ⌜ now (arcs .exit) ≡ write (now (arcs .entry)) 0 (wordsOf (sheetOf (now (sheet .entry)))) ⌝ }

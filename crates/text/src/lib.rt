@@ -43,7 +43,7 @@ pub fn cut(s: &[u8], b: u8) -> &[u8]
 }
 
 // The number that a field says: 1 to 8 digits, with no leading 0 save 0 alone.
-pub fn number_of(field: &[u8]) -> Number
+fn number_of(field: &[u8]) -> Number
     ensures { λ r. ⌜ r ≡ number (now (field .entry)) ⌝ }
 {
     if field.len() == 0 {
@@ -75,7 +75,7 @@ pub fn number_of(field: &[u8]) -> Number
 }
 
 // How many bytes a line has in common with a word, from the front.
-pub fn in_common(line: &[u8], word: &[u8]) -> usize
+fn in_common(line: &[u8], word: &[u8]) -> usize
     ensures { λ r. ⌜ r ≡ common (now (word .entry)) (now (line .entry)) ⌝ }
 {
     let mut i = 0;
@@ -92,7 +92,7 @@ pub fn in_common(line: &[u8], word: &[u8]) -> usize
 }
 
 // The number after byte `at` of a line, which has to be sep.
-pub fn item_at(line: &[u8], sep: u8, at: usize) -> Item
+fn item_at(line: &[u8], sep: u8, at: usize) -> Item
     ensures { λ r. ⌜ r ≡ item sep at (drop at (now (line .entry))) ⌝ }
 {
     if line.len() <= at {
@@ -111,7 +111,7 @@ pub fn item_at(line: &[u8], sep: u8, at: usize) -> Item
 }
 
 // As many numbers as out holds, from byte `from` of the line on, each after sep, and then the line's end.
-pub fn numbers_into(line: &[u8], sep: u8, from: usize, out: &mut [u32]) -> Line
+fn numbers_into(line: &[u8], sep: u8, from: usize, out: &mut [u32]) -> Line
     ensures { λ r. ⌜ r ≡ answerOf (numbers sep (length (now (out .entry))) (now (line .entry)) from) ⌝ }
     ensures { λ r. ⌜ now (out .exit) ≡ write (now (out .entry)) 0 (takenOf (numbers sep (length (now (out .entry))) (now (line .entry)) from)) ⌝ }
 {
