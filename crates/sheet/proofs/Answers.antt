@@ -40,10 +40,12 @@ said-once (Refused q) (Refused r) e = ap Refused (same-refusal q r e)
 
 -- ---- the form, as it was checked
 
+-- a sheet that was checked as broken at line k is broken at line k
 broken-was : (p : Contents) (k : ℕ) → formOf p ≡ Broken k → p ≡ broken k
 broken-was (whole n d m words asks) k e = let z : _≡_ {A = ℕ} 0 1 = cc in absurd (omega arith)
 broken-was (broken j) k e = let q : j ≡ k = cc in ap broken q
 
+-- one that was checked as whole is not broken
 whole-not-broken : (p : Contents) (f : Form) → formOf p ≡ Whole f → isBroken p ≡ false
 whole-not-broken (whole n d m words asks) f e = refl
 whole-not-broken (broken j) f e = let z : _≡_ {A = ℕ} 0 1 = cc in absurd (omega arith)
@@ -57,6 +59,7 @@ module _ (s : List ℕ) (l : List ℕ) where
     pub request : r .request ≡ readRequest s (length l)
     pub arcs : l′ ≡ arcsAfter s l
 
+  -- a refusal: its number and place, zeros beside it, and the words as they came
   refuses : (number place : ℕ) → weigh (readerRows s (length l)) ≡ refused number place → Reads (refusedReading number place) l
   unfolding readSays readRequest arcsAfter
   refuses number place e = record { says = rw e refl; request = rw e refl; arcs = rw e refl }
@@ -94,6 +97,7 @@ module _ (s : List ℕ) (l : List ℕ) where
 
   -- ---- two answers that the promise allows are the same
 
+  -- their outcomes say the same, so they are the same; request and words are given by equations
   pub reads-once : (q r : Reading) (x y : List ℕ) → Reads q x → Reads r y → (q ≡ r) × (x ≡ y)
   reads-once q r x y a b =
       let o : q .outcome ≡ r .outcome = said-once (q .outcome) (r .outcome) (a .says ∙ sym (b .says)) in

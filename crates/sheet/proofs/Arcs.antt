@@ -51,6 +51,7 @@ pub record ArcNext (g : Kind) (rest : Contents) (n d m : ℕ) (ws asks : List �
   pub after : rest ≡ whole n d m more asks
   pub words : ws ≡ vs ++ more
 
+-- or it was the ask, with nothing after it
 pub record AskLast (g : Kind) (cs : List ℕ) (n d m : ℕ) (n′ d′ m′ : ℕ) (ws asks : List ℕ) : Type 0 where
   pub ask : g ≡ anAsk asks
   pub ends : cs ≡ []
@@ -59,6 +60,7 @@ pub record AskLast (g : Kind) (cs : List ℕ) (n d m : ℕ) (n′ d′ m′ : �
   pub arcs : m ≡ m′
   pub words : ws ≡ []
 
+-- one of the two
 pub judge-was : (g : Kind) (n d m k : ℕ) (cs : List ℕ) (rest : Contents) (n′ d′ m′ : ℕ) (ws asks : List ℕ)
     → judge g n d m k cs rest ≡ whole n′ d′ m′ ws asks → ArcNext g rest n′ d′ m′ ws asks ⊎ AskLast g cs n d m n′ d′ m′ ws asks
 judge-was (anArc vs) n d m k cs (whole n₁ d₁ m₁ ws₁ a₁) n′ d′ m′ ws asks e =
@@ -86,6 +88,7 @@ pub record Kept (n d m : ℕ) (n′ d′ m′ : ℕ) (ws asks : List ℕ) : Type
   pub asked : length asks ≡ d * 2
   pub asks-small : AtMost largest asks
 
+-- whatever has been begun of line k
 pub lines-keeps : (n d m k : ℕ) (cur s : List ℕ) (n′ d′ m′ : ℕ) (ws asks : List ℕ) → linesFrom n d m k cur s ≡ whole n′ d′ m′ ws asks → Kept n d m n′ d′ m′ ws asks
 unfolding linesFrom
 lines-keeps n d m k cur [] n′ d′ m′ ws asks e = let z : _≡_ {A = ℕ} 0 1 = cc in absurd (omega arith)
@@ -143,6 +146,7 @@ pub record ArcHere (n d m i k : ℕ) (s : List ℕ) (at : ℕ) (ws asks line : L
   pub words : ws ≡ vs ++ more
   pub after : linesFrom n d (i + 1) (k + 1) [] (drop (at + length line + 1) s) ≡ whole n d m more asks
 
+-- while fewer than m arcs are read, the line at byte `at` is one
 pub arc-here : (n d m i k : ℕ) (s : List ℕ) (at : ℕ) (ws asks line : List ℕ) → line ≡ before lf (drop at s) → at ≤ length s → i < m
     → linesFrom n d i k [] (drop at s) ≡ whole n d m ws asks → ArcHere n d m i k s at ws asks line
 arc-here n d m i k s at ws asks line q h l e =

@@ -27,16 +27,19 @@ passed : (rows : List Row) → weigh rows ≡ clear → (k : ℕ) → k < length
 unfolding NoneHolds
 passed rows e k h = is-false (row rows k .holds) (clear-none rows e k h)
 
+-- of two tests neither came out true
 or-false : (a b : Bool) → (a || b) ≡ false → (a ≡ false) × (b ≡ false)
 or-false true b e = absurd (false≢true (sym e))
 or-false false b e = (refl, e)
 
+-- a test that came out true
 not-false : (a : Bool) → not a ≡ false → a ≡ true
 not-false true e = refl
 not-false false e = sym e
 
 -- ---- the reader's
 
+-- what a sheet says, and that it and the lent words are within bounds
 pub record Readable (s : List ℕ) (room : ℕ) : Type 0 where
   pub nodes : ℕ
   pub criteria : ℕ
@@ -47,6 +50,7 @@ pub record Readable (s : List ℕ) (room : ℕ) : Type 0 where
   pub short : length s ≤ 8192
   pub fits : length words ≤ room
 
+-- no row holds, so the sheet is whole
 pub readable : (s : List ℕ) (room : ℕ) → weigh (readerRows s room) ≡ clear → Readable s room
 readable s room e = go (sheetOf s) refl
   where
@@ -66,12 +70,14 @@ readable s room e = go (sheetOf s) refl
 
 -- ---- the writer's
 
+-- the request and its arcs are within bounds, and so is their sheet
 pub record Writable (r : Request) (words : List ℕ) (room : ℕ) : Type 0 where
   pub ranged : Ranged (r .criteria) words
   pub small : anyOver (numbersOf r words) ≡ false
   pub short : length (written r words) ≤ 8192
   pub fits : length (written r words) ≤ room
 
+-- no row holds, so each test came out false
 pub writable : (r : Request) (words : List ℕ) (room : ℕ) → weigh (writerRows r words room) ≡ clear → Writable r words room
 writable r words room e =
     let rows = writerRows r words room in

@@ -19,9 +19,11 @@ cut-whole l x p =
     before-through lf l (lf ∷ x) h ∙ ap (λ (r : List ℕ). l ++ r) (before-first lf x) ∙ append-nil l
 
 module _ (l x : List ℕ) (p : before lf (l ++ (lf ∷ x)) ≡ l) where
+  -- the line is not all that there is
   pub cut-short : length l < length (l ++ (lf ∷ x))
   cut-short = rw (length-append l (lf ∷ x)) (omega arith)
 
+  -- what follows its LF
   cut-rest : drop (length l + 1) (l ++ (lf ∷ x)) ≡ x
   cut-rest = drop-append-add l (lf ∷ x) 1
 

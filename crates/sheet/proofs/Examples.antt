@@ -13,6 +13,7 @@ use Rattle.sheet.specs.Rendering.{arcLines, sheetText}
 tracks72 : List ℕ
 tracks72 = 116 ∷ 114 ∷ 97 ∷ 99 ∷ 107 ∷ 115 ∷ 9 ∷ 55 ∷ 9 ∷ 50 ∷ []
 
+-- `ask|0|2|1|1`
 ask0211 : List ℕ
 ask0211 = 97 ∷ 115 ∷ 107 ∷ 9 ∷ 48 ∷ 9 ∷ 50 ∷ 9 ∷ 49 ∷ 9 ∷ 49 ∷ []
 
@@ -50,6 +51,7 @@ leading-zero : number (48 ∷ 48 ∷ 55 ∷ []) ≡ Fault 1
 unfolding number
 leading-zero = refl
 
+-- a ninth digit is at fault at byte 8
 nine-digits : number (49 ∷ 50 ∷ 51 ∷ 52 ∷ 53 ∷ 54 ∷ 55 ∷ 56 ∷ 57 ∷ []) ≡ Fault 8
 unfolding number digitsAfter
 nine-digits = refl

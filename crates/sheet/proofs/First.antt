@@ -24,22 +24,26 @@ pub sheet-loose : (s line : List ℕ) → line ≡ before lf s → length s ≤ 
 unfolding sheetOf
 sheet-loose s line q h = rw (← q, le-ltb (length line) (length s) h)
 
+-- a first line with its LF
 pub sheet-line : (s line : List ℕ) → line ≡ before lf s → length line < length s → sheetOf s ≡ afterFirst (tracksLine line) (drop (length line + 1) s)
 unfolding sheetOf
 sheet-line s line q h = rw (← q, lt-ltb (length line) (length s) h)
 
 -- ---- d is 2, 3 or another number
 
+-- d is 2
 pub first-two : (vs cs : List ℕ) → length vs ≡ 2 → getD vs 1 0 ≡ 2 → afterFirst (good vs) cs ≡ linesFrom (getD vs 0 0) 2 0 2 [] cs
 first-two [] cs l e = absurd (omega arith)
 first-two (n ∷ []) cs l e = absurd (omega arith)
 first-two (n ∷ (d ∷ vs)) cs l e = let q : d ≡ 2 = e in rw q
 
+-- d is 3
 pub first-three : (vs cs : List ℕ) → length vs ≡ 2 → getD vs 1 0 ≡ 3 → afterFirst (good vs) cs ≡ linesFrom (getD vs 0 0) 3 0 2 [] cs
 first-three [] cs l e = absurd (omega arith)
 first-three (n ∷ []) cs l e = absurd (omega arith)
 first-three (n ∷ (d ∷ vs)) cs l e = let q : d ≡ 3 = e in rw q
 
+-- d is another number
 pub first-other : (vs cs : List ℕ) → (getD vs 1 0 ≡ 2 → ⊥) → (getD vs 1 0 ≡ 3 → ⊥) → afterFirst (good vs) cs ≡ broken 1
 first-other [] cs a b = refl
 first-other (n ∷ []) cs a b = refl
@@ -47,6 +51,7 @@ first-other (n ∷ (d ∷ vs)) cs a b = rw (ne-eqb d 2 a, ne-eqb d 3 b)
 
 -- ---- the first line of a whole sheet
 
+-- its numbers, the lines after it, and what they keep
 pub record Begun (n d m : ℕ) (s words asks line : List ℕ) : Type 0 where
   pub room : length line < length s
   pub at-least : 2 ≤ d
@@ -56,6 +61,7 @@ pub record Begun (n d m : ℕ) (s words asks line : List ℕ) : Type 0 where
   pub says : tracksLine line ≡ good (n ∷ (d ∷ extra))
   pub kept : Kept n d 0 n d m words asks
 
+-- a sheet that is whole has N and d, 2 or 3, on line 1
 first-was : (g : Got) (cs : List ℕ) (n d m : ℕ) (words asks : List ℕ) → afterFirst g cs ≡ whole n d m words asks
     → (2 ≤ d) × (d ≤ 3) × (linesFrom n d 0 2 [] cs ≡ whole n d m words asks) × ((vs : List ℕ) × (g ≡ good (n ∷ (d ∷ vs))))
 first-was (bad j us) cs n d m words asks e = let z : _≡_ {A = ℕ} 0 1 = cc in absurd (omega arith)
@@ -77,6 +83,7 @@ first-was (good (x ∷ (y ∷ vs))) cs n d m words asks e = go (eqb y 2) refl (e
     go false a true b e = same (omega (arith, eqb-true y 3 b)) (omega (arith, eqb-true y 3 b)) e
     go false a false b e = let z : _≡_ {A = ℕ} 0 1 = cc in absurd (omega arith)
 
+-- the same of a whole sheet whose first line was cut
 pub sheet-begun : (n d m : ℕ) (s words asks line : List ℕ) → line ≡ before lf s → sheetOf s ≡ whole n d m words asks → Begun n d m s words asks line
 sheet-begun n d m s words asks line q e =
     ⊎-elim (λ r.

@@ -44,6 +44,7 @@ ends-plain (c ∷ cs) x p = go (eqb c lf) (ends-plain cs x) p
     go true ih p = let z : _≡_ {A = ℕ} 0 1 = cc in absurd (omega arith)
     go false ih p = let q : before lf cs ≡ cs = cc in ih q
 
+-- a line with its LF is one line more
 ends-line : (l x : List ℕ) → before lf l ≡ l → ends (l ++ (lf ∷ x)) ≡ suc (ends x)
 unfolding ends
 ends-line l x p = ends-plain l (lf ∷ x) p
@@ -59,6 +60,7 @@ same-line s line after p e = ap (before lf) e ∙ cut-whole line after p
 
 -- ---- the lines after the first
 
+-- line j is the first bad one of the lines from line k on, after m arcs
 record BadFrom (n d m k : ℕ) (s : List ℕ) (j : ℕ) : Type 0 where
   pub front : List ℕ
   pub rest : List ℕ
@@ -85,10 +87,12 @@ at-once n d m k s h =
       bad-here = h;
     }
 
+-- an arc in front breaks no sheet
 add-broken : (vs : List ℕ) (p : Contents) (j : ℕ) → addArc vs p ≡ broken j → p ≡ broken j
 add-broken vs (whole n d m words asks) j e = let z : _≡_ {A = ℕ} 0 1 = cc in absurd (omega arith)
 add-broken vs (broken k) j e = e
 
+-- and mends none
 add-keeps : (vs : List ℕ) (p : Contents) → isBroken (addArc vs p) ≡ isBroken p
 add-keeps vs (whole n d m words asks) = refl
 add-keeps vs (broken k) = refl

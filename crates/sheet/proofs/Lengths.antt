@@ -16,6 +16,7 @@ use Rattle.sheet.specs.Writer.{asksOf, written, Ranged}
 
 -- ---- a line's length
 
+-- its word, its numbers and its LF
 line-width : (word vs : List ℕ) → length (lineText tab word vs) ≡ length word + partedWidth vs + 1
 line-width word vs = line-length tab word vs ∙ ap (λ (k : ℕ). length word + k + 1) (parted-width tab vs)
 
@@ -36,6 +37,7 @@ module _ (w : ℕ) where
       (ap (λ (r : List ℕ). lineText tab arcWord (take w words) ++ r) (arcs-split i j (drop w words) ∙ ap (λ (r : List ℕ). arcLines w i (drop w words) ++ arcLines w j r) (drop-drop (i * w) w words ∙ ap (λ (k : ℕ). drop k words) b))
       ∙ sym (append-assoc (lineText tab arcWord (take w words)) (arcLines w i (drop w words)) (arcLines w j (drop (suc i * w) words))))
 
+  -- one arc alone
   arcs-one : (words : List ℕ) → arcLines w 1 words ≡ lineText tab arcWord (take w words)
   unfolding arcLines
   arcs-one words = append-nil (lineText tab arcWord (take w words))
@@ -45,6 +47,7 @@ module _ (w : ℕ) where
   arcs-next i p words e =
       arcs-split i 1 words ∙ ap (λ (r : List ℕ). arcLines w i words ++ r) (arcs-one (drop (i * w) words) ∙ ap (λ (k : ℕ). lineText tab arcWord (part words k w)) (sym e))
 
+  -- no arc
   pub arcs-none : (words : List ℕ) → arcLines w 0 words ≡ []
   unfolding arcLines
   arcs-none words = refl
@@ -85,6 +88,7 @@ module _ (r : Request) (words : List ℕ) (g : Ranged (r .criteria) words) where
       let b : length words / (r .criteria + 2) * (r .criteria + 2) ≤ 512 * 5 = mul-le-mul (g .arcs) w in
       omega (arith, whole-arcs)
 
+  -- seven bytes around N and d, four around each arc, four around what is asked
   pub written-length : length (written r words)
       ≡ 7 + partedWidth (r .nodes ∷ r .criteria ∷ []) + length words / (r .criteria + 2) * 4 + partedWidth words + 4 + partedWidth (asksOf r)
   unfolding written sheetText

@@ -21,19 +21,23 @@ use Rattle.sheet.specs.Inside.{askedFrom, isGood, askKind, lineKind}
 
 -- ---- what a line's reader tells
 
+-- a line that was found good
 good-was : (g : Got) → Good ≡ answerOf g → g ≡ good (takenOf g)
 good-was (good vs) e = refl
 good-was (bad j us) e = let z : _≡_ {A = ℕ} 0 1 = cc in absurd (omega arith)
 
+-- a line that was found bad at byte j
 bad-was : (g : Got) (j : ℕ) → Bad j ≡ answerOf g → g ≡ bad j (takenOf g)
 bad-was (good vs) j e = let z : _≡_ {A = ℕ} 0 1 = cc in absurd (omega arith)
 bad-was (bad i us) j e = let q : j ≡ i = cc in ap (λ (k : ℕ). bad k us) (sym q)
 
 -- its answer r says of the line, at the count n that the lent part has
 module _ (word : List ℕ) (n k : ℕ) (line : List ℕ) (r : Line) (h : r ≡ answerOf (lineOf tab word k line)) (e : k ≡ n) where
+  -- it is good
   pub told-good : r ≡ Good → lineOf tab word n line ≡ good (takenOf (lineOf tab word n line))
   told-good g = good-was (lineOf tab word n line) (sym g ∙ h ∙ ap (λ (x : ℕ). answerOf (lineOf tab word x line)) e)
 
+  -- it is bad at byte j
   pub told-bad : (j : ℕ) → r ≡ Bad j → lineOf tab word n line ≡ bad j (takenOf (lineOf tab word n line))
   told-bad j g = bad-was (lineOf tab word n line) j (sym g ∙ h ∙ ap (λ (x : ℕ). answerOf (lineOf tab word x line)) e)
 
@@ -53,9 +57,11 @@ filled word n line vs out₀ out l g e =
 abbrev pub padded : ℕ → List ℕ → List ℕ
 padded n vs = vs ++ drop n (0 ∷ 0 ∷ 0 ∷ 0 ∷ 0 ∷ 1 ∷ [])
 
+-- what stands in six words, by place
 abbrev pub askFrom : List ℕ → Asked
 askFrom l = record { source = getD l 0 0; hops = getD l 1 0; p1 = getD l 2 0; q1 = getD l 3 0; p2 = getD l 4 0; q2 = getD l 5 0 }
 
+-- four numbers that were read, and 0 over 1 after them
 padded-four : (vs : List ℕ) → length vs ≡ 4 → askFrom (padded 4 vs) ≡ askedFrom vs
 padded-four [] h = absurd (omega arith)
 padded-four (a ∷ []) h = absurd (omega arith)
@@ -64,6 +70,7 @@ padded-four (a ∷ (b ∷ (c ∷ []))) h = absurd (omega arith)
 padded-four (a ∷ (b ∷ (c ∷ (d ∷ [])))) h = refl
 padded-four (a ∷ (b ∷ (c ∷ (d ∷ (e ∷ vs))))) h = absurd (omega arith)
 
+-- six numbers that were read
 padded-six : (vs : List ℕ) → length vs ≡ 6 → askFrom (padded 6 vs) ≡ askedFrom vs
 padded-six [] h = absurd (omega arith)
 padded-six (a ∷ []) h = absurd (omega arith)

@@ -20,6 +20,7 @@ use Rattle.sheet.proofs.Lengths.{arcs-next}
 -- ---- numbers that are too large, in the order in which they are looked at
 
 module _ (r : Request) (words : List ℕ) where
+  -- all that is written, part by part
   over-all : anyOver (numbersOf r words) ≡ (anyOver (r .nodes ∷ r .criteria ∷ []) || (anyOver words || anyOver (asksOf r)))
   unfolding numbersOf
   over-all =
@@ -43,9 +44,11 @@ module _ (r : Request) (words : List ℕ) where
 -- ---- the numbers of `ask`, as a part of all of them
 
 module _ (r : Request) (v : List ℕ) (e : v ≡ askNumbers r) where
+  -- the part that is lent has 2 × d numbers
   pub asks-lent : r .criteria ≤ 3 → r .criteria * 2 ≡ length (take (r .criteria * 2) v)
   asks-lent h = sym (ap (λ (x : List ℕ). length (take (r .criteria * 2) x)) e ∙ length-take-le (r .criteria * 2) (askNumbers r) (omega arith))
 
+  -- and they are those that are written
   pub asks-are : take (r .criteria * 2) v ≡ asksOf r
   unfolding asksOf
   asks-are = ap (take (r .criteria * 2)) e
@@ -57,11 +60,13 @@ pub arc-words : (words : List ℕ) (p w : ℕ) → take (p + w - p) (drop p word
 arc-words words p w = let e : p + w - p ≡ w = omega arith in rw e
 
 module _ (w i p at a : ℕ) (words : List ℕ) (e : p ≡ i * w) where
+  -- where the next arc ends
   pub arc-ends : length (arcLines w (i + 1) words) ≡ length (arcLines w i words) + length (lineText tab arcWord (take (p + w - p) (drop p words)))
   arc-ends =
       ap length (arcs-next w i p words e) ∙ length-append (arcLines w i words) (lineText tab arcWord (part words p w))
       ∙ ap (λ (vs : List ℕ). length (arcLines w i words) + length (lineText tab arcWord vs)) (sym (arc-words words p w))
 
+  -- the next arc is written right after those before
   pub arc-put : (sheet₀ sheet sheet′ : List ℕ) → a ≡ at + length (arcLines w i words) → sheet ≡ write sheet₀ at (arcLines w i words)
       → sheet′ ≡ write sheet a (lineText tab arcWord (take (p + w - p) (drop p words))) → sheet′ ≡ write sheet₀ at (arcLines w (i + 1) words)
   arc-put sheet₀ sheet sheet′ f g h =
@@ -74,22 +79,28 @@ module _ (w i p at a : ℕ) (words : List ℕ) (e : p ≡ i * w) where
 -- ---- the three parts
 
 module _ (r : Request) (words : List ℕ) where
+  -- the `tracks` line
   abbrev pub front : List ℕ
   front = lineText tab tracksWord (r .nodes ∷ r .criteria ∷ [])
 
+  -- the `arc` lines
   abbrev pub middle : List ℕ
   middle = arcLines (r .criteria + 2) (length words / (r .criteria + 2)) words
 
+  -- the `ask` line
   abbrev pub back : List ℕ
   back = lineText tab askWord (asksOf r)
 
+  -- the sheet is these three
   written-is : written r words ≡ front ++ (middle ++ back)
   unfolding written sheetText
   written-is = refl
 
+  -- so is its length
   pub written-long : length (written r words) ≡ length front + length middle + length back
   written-long = ap length written-is ∙ length-append front (middle ++ back) ∙ omega (arith, length-append middle back)
 
+  -- and so is what the three writes leave
   pub written-put : (s₀ s₁ s₂ s₃ asked : List ℕ) (a b : ℕ) → a ≡ length front → b ≡ a + length middle
       → s₁ ≡ write s₀ 0 front → s₂ ≡ write s₁ a middle → s₃ ≡ write s₂ b asked → asked ≡ back → s₃ ≡ write s₀ 0 (written r words)
   written-put s₀ s₁ s₂ s₃ asked a b ea eb e₁ e₂ e₃ e₄ =

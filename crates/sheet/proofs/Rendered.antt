@@ -22,6 +22,7 @@ use Rattle.sheet.proofs.Cuts.{lines-cut, sheet-cut}
 
 -- ---- no LF in a line as it is written, but at its end
 
+-- none in numbers, each after a tab
 before-parted : (vs t : List ℕ) → before lf (parted tab vs ++ t) ≡ parted tab vs ++ before lf t
 unfolding parted
 before-parted [] t = refl
@@ -33,24 +34,29 @@ before-parted (v ∷ vs) t =
 abbrev pub Plain : List ℕ → Type 0
 Plain w = (t : List ℕ) → before lf (w ++ t) ≡ w ++ before lf t
 
+-- none in `arc`
 pub plain-arc : Plain arcWord
 unfolding before
 plain-arc t = refl
 
+-- none in `ask`
 pub plain-ask : Plain askWord
 unfolding before
 plain-ask t = refl
 
+-- none in `tracks`
 pub plain-tracks : Plain tracksWord
 unfolding before
 plain-tracks t = refl
 
+-- none in a word and numbers
 plain-line : (w vs : List ℕ) → Plain w → Plain (w ++ parted tab vs)
 plain-line w vs p t = rw (append-assoc w (parted tab vs) t) (p (parted tab vs ++ t) ∙ rw (before-parted vs t) (sym (append-assoc w (parted tab vs) (before lf t))))
 
 -- ---- so a line is what stands before the first LF
 
 module _ (w vs t : List ℕ) (p : Plain w) where
+  -- a line without its LF
   abbrev line : List ℕ
   line = w ++ parted tab vs
 
@@ -59,22 +65,27 @@ module _ (w vs t : List ℕ) (p : Plain w) where
   unfolding lineText
   line-then = append-assoc line (lf ∷ []) t
 
+  -- the line is what is cut out
   pub line-cut : before lf (line ++ (lf ∷ t)) ≡ line
   line-cut = plain-line w vs p (lf ∷ t) ∙ rw (before-first lf t) (append-nil line)
 
+  -- so it is judged, and then what follows
   pub lines-text : (n d m k : ℕ) → linesFrom n d m k [] (lineText tab w vs ++ t) ≡ judge (kindOf d m line) n d m k t (linesFrom n d (m + 1) (k + 1) [] t)
   lines-text n d m k = ap (linesFrom n d m k []) line-then ∙ lines-cut line t line-cut n d m k
 
 -- ---- the kind of a line as it is written
 
+-- an arc, where there may be one more
 kind-of-arc : (d m : ℕ) (vs : List ℕ) → m < 512 → length vs ≡ d + 2 → AtMost largest vs → kindOf d m (arcWord ++ parted tab vs) ≡ anArc vs
 unfolding kindOf
 kind-of-arc d m vs h l s = rw (lt-ltb m 512 h, ← l, lineOf-parted tab (omega arith) arcWord vs s)
 
+-- `ask` has one byte in common with `arc`
 ask-no-arc : (n : ℕ) (t : List ℕ) → lineOf tab arcWord n (askWord ++ t) ≡ bad 1 []
 unfolding lineOf common
 ask-no-arc n t = refl
 
+-- the ask
 kind-of-ask : (d m : ℕ) (vs : List ℕ) → length vs ≡ d * 2 → AtMost largest vs → kindOf d m (askWord ++ parted tab vs) ≡ anAsk vs
 unfolding kindOf
 kind-of-ask d m vs l s = rw (ask-no-arc (d + 2) (parted tab vs), ← l, lineOf-parted tab (omega arith) askWord vs s) (go (ltb m 512))
@@ -85,11 +96,13 @@ kind-of-ask d m vs l s = rw (ask-no-arc (d + 2) (parted tab vs), ← l, lineOf-p
 
 -- ---- the arcs and the ask
 
+-- the ask alone
 pub lines-ask : (n d m k : ℕ) (asks : List ℕ) → length asks ≡ d * 2 → AtMost largest asks → linesFrom n d m k [] (lineText tab askWord asks) ≡ whole n d m [] asks
 lines-ask n d m k asks a t =
     ap (linesFrom n d m k []) (sym (append-nil (lineText tab askWord asks)))
     ∙ lines-text askWord asks [] plain-ask n d m k ∙ rw (kind-of-ask d m asks a t)
 
+-- j arcs and the ask
 lines-written : (n d i k j : ℕ) (words asks : List ℕ) → i + j ≤ 512 → length words ≡ j * (d + 2) → length asks ≡ d * 2 → AtMost largest words → AtMost largest asks
     → linesFrom n d i k [] (arcLines (d + 2) j words ++ lineText tab askWord asks) ≡ whole n d (i + j) words asks
 unfolding arcLines
@@ -110,6 +123,7 @@ lines-written n d i k (suc j) words asks h l a s t =
 
 -- ---- the whole sheet
 
+-- a sheet as it is written says what was written
 pub sheet-written : (n d m : ℕ) (words asks : List ℕ) → Sheetable n d m words asks → sheetOf (sheetText n d m words asks) ≡ whole n d m words asks
 unfolding sheetText
 sheet-written n d m words asks c =

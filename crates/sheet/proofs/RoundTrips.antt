@@ -45,6 +45,7 @@ asks-four n (a ∷ (b ∷ (c ∷ []))) h = absurd (omega arith)
 asks-four n (a ∷ (b ∷ (c ∷ (d ∷ [])))) h = refl
 asks-four n (a ∷ (b ∷ (c ∷ (d ∷ (e ∷ asks))))) h = absurd (omega arith)
 
+-- of three criteria
 asks-six : (n : ℕ) (asks : List ℕ) → length asks ≡ 6 → take 6 (askNumbers (requestFrom n 3 asks)) ≡ asks
 asks-six n [] h = absurd (omega arith)
 asks-six n (a ∷ []) h = absurd (omega arith)
@@ -55,9 +56,11 @@ asks-six n (a ∷ (b ∷ (c ∷ (d ∷ (e ∷ []))))) h = absurd (omega arith)
 asks-six n (a ∷ (b ∷ (c ∷ (d ∷ (e ∷ (f ∷ [])))))) h = refl
 asks-six n (a ∷ (b ∷ (c ∷ (d ∷ (e ∷ (f ∷ (g ∷ asks))))))) h = absurd (omega arith)
 
+-- d is 2 or 3
 two-or-three : (d : ℕ) → 2 ≤ d → d ≤ 3 → (d ≡ 2) ⊎ (d ≡ 3)
 two-or-three d lo hi = ⊎-elim (λ u. inl (omega arith)) (λ u. inr (omega arith)) (lt-or-le d 3)
 
+-- of either
 asks-back : (n d : ℕ) (asks : List ℕ) → 2 ≤ d → d ≤ 3 → length asks ≡ d * 2 → asksOf (requestFrom n d asks) ≡ asks
 unfolding asksOf
 asks-back n d asks lo hi h = go d (two-or-three d lo hi) h
@@ -82,6 +85,7 @@ asks-come-back r lo hi = go (r .criteria) (two-or-three (r .criteria) lo hi)
     go d (inl e) = rw e
     go d (inr e) = rw e
 
+-- there are 2 × d of them
 asks-long : (r : Request) → r .criteria ≤ 3 → length (asksOf r) ≡ r .criteria * 2
 unfolding asksOf
 asks-long r h = length-take-le (r .criteria * 2) (askNumbers r) (omega arith)
@@ -94,15 +98,19 @@ front-is l ys n h e = ap (λ (k : ℕ). take k (write l 0 ys)) e ∙ part-write-
 
 -- what a sheet says, written
 module _ (n d m : ℕ) (s words asks : List ℕ) (e : sheetOf s ≡ whole n d m words asks) where
+  -- the request that is read
   abbrev request : Request
   request = requestFrom n d asks
 
+  -- what was read can be written
   can-be : Sheetable n d m words asks
   can-be = sheetable n d m s words asks e
 
+  -- as many arcs as were read
   as-many : length words / (d + 2) ≡ m
   as-many = ap (λ (k : ℕ). k / (d + 2)) (can-be .arc-words) ∙ mul-div-cancel m (omega arith)
 
+  -- the sheet that is written is the one that was read
   same-text : written request words ≡ s
   unfolding written
   same-text =
@@ -110,6 +118,7 @@ module _ (n d m : ℕ) (s words asks : List ℕ) (e : sheetOf s ≡ whole n d m 
       ∙ ap (sheetText n d m words) (asks-back n d asks (can-be .at-least) (can-be .at-most) (can-be .asked))
       ∙ sym (sheet-was n d m s words asks e)
 
+  -- rows 3 and 7 do not hold
   in-range : Ranged d words
   in-range =
       record {
@@ -119,6 +128,7 @@ module _ (n d m : ℕ) (s words asks : List ℕ) (e : sheetOf s ≡ whole n d m 
         arcs = rw as-many (can-be .arcs);
       }
 
+  -- row 11 does not hold
   none-large : anyOver (numbersOf request words) ≡ false
   unfolding numbersOf
   none-large =
@@ -126,6 +136,7 @@ module _ (n d m : ℕ) (s words asks : List ℕ) (e : sheetOf s ≡ whole n d m 
       let f : AtMost largest (n ∷ d ∷ []) = atMost-cons largest n (d ∷ []) (can-be .nodes-small) (atMost-cons largest d [] (omega (arith, can-be .at-most)) (atMost-none largest)) in
       over-not _ (atMost-append largest (n ∷ d ∷ []) (words ++ asksOf request) f (atMost-append largest words (asksOf request) (can-be .words-small) a))
 
+  -- so the writer answers the length of s, and writes s
   writes-back : (sheet : List ℕ) → length s ≤ 8192 → length s ≤ length sheet
       → (writeSays request words (length sheet) ≡ writingSaid (Bytes (length s))) × (sheetAfter request words sheet ≡ write sheet 0 s)
   writes-back sheet short fits =
@@ -195,6 +206,7 @@ four-are (a ∷ (b ∷ (c ∷ []))) h = absurd (omega arith)
 four-are (a ∷ (b ∷ (c ∷ (d ∷ [])))) h = refl
 four-are (a ∷ (b ∷ (c ∷ (d ∷ (e ∷ ratios))))) h = absurd (omega arith)
 
+-- then the request comes back as it is
 pub all-comes-back : (r : Request) → r .criteria ≡ 3 → length (r .ratios) ≡ 4 → comesBack r ≡ r
 all-comes-back r d h =
     let second : eqb (r .criteria) 2 ≡ false = ap (λ (k : ℕ). eqb k 2) d in

@@ -45,6 +45,7 @@ lines-loose n d m k cur (c ∷ cs) h = go (eqb c 10) (lines-loose n d m k (cur +
 
 -- the same at byte `at` of a sheet, with the line as it was cut
 module _ (n d m k : ℕ) (s : List ℕ) (at : ℕ) (line : List ℕ) (q : line ≡ before lf (drop at s)) (h : at ≤ length s) where
+  -- with its LF: the line is judged
   pub lines-at : at + length line < length s
       → linesFrom n d m k [] (drop at s)
       ≡ judge (kindOf d m line) n d m k (drop (at + length line + 1) s) (linesFrom n d (m + 1) (k + 1) [] (drop (at + length line + 1) s))
@@ -53,15 +54,18 @@ module _ (n d m k : ℕ) (s : List ℕ) (at : ℕ) (line : List ℕ) (q : line �
       let e : drop (suc (length line)) (drop at s) ≡ drop (at + length line + 1) s = drop-drop (suc (length line)) at s ∙ rw i in
       rw (← e, q) (lines-line n d m k [] (drop at s) (rw (← q, length-drop) (omega arith)))
 
+  -- without: it is bad
   pub lines-last : length s ≤ at + length line → linesFrom n d m k [] (drop at s) ≡ broken k
   lines-last l = lines-loose n d m k [] (drop at s) (rw (← q, length-drop) (omega arith))
 
+-- an arc's words do not show in the form
 form-arc : (vs : List ℕ) (p : Contents) → formOf (addArc vs p) ≡ formOf p
 form-arc vs (whole n d m ws a) = refl
 form-arc vs (broken k) = refl
 
 -- what a line of each sort makes of the sheet's formOf
 module _ (n d m k : ℕ) (g : Kind) (cs : List ℕ) (rest : Contents) where
+  -- an arc: what follows decides
   judge-arc : Arc ≡ lineKind g → formOf (judge g n d m k cs rest) ≡ formOf rest
   judge-arc e = go g e
     where
@@ -70,6 +74,7 @@ module _ (n d m k : ℕ) (g : Kind) (cs : List ℕ) (rest : Contents) where
       go (anAsk vs) e = let z : _≡_ {A = ℕ} 0 1 = cc in absurd (omega arith)
       go neither e = let z : _≡_ {A = ℕ} 0 1 = cc in absurd (omega arith)
 
+  -- neither: the line is bad
   judge-neither : Neither ≡ lineKind g → formOf (judge g n d m k cs rest) ≡ Broken k
   judge-neither e = go g e
     where
@@ -78,6 +83,7 @@ module _ (n d m k : ℕ) (g : Kind) (cs : List ℕ) (rest : Contents) where
       go (anAsk vs) e = let z : _≡_ {A = ℕ} 0 1 = cc in absurd (omega arith)
       go neither e = refl
 
+  -- the ask at the end: the sheet is whole
   judge-ask : (a : Asked) → Ask a ≡ lineKind g → length cs ≡ 0 → formOf (judge g n d m k cs rest) ≡ Whole (record { nodes = n; criteria = d; arcs = m; ask = a })
   judge-ask a e l = go g e cs l
     where
@@ -88,6 +94,7 @@ module _ (n d m k : ℕ) (g : Kind) (cs : List ℕ) (rest : Contents) where
       go (anAsk vs) e (c ∷ cs) l = absurd (omega arith)
       go neither e cs l = let z : _≡_ {A = ℕ} 0 1 = cc in absurd (omega arith)
 
+  -- the ask and more after it: the next line is bad
   judge-more : (a : Asked) → Ask a ≡ lineKind g → 0 < length cs → formOf (judge g n d m k cs rest) ≡ Broken (k + 1)
   judge-more a e l = go g e cs l
     where
@@ -100,9 +107,11 @@ module _ (n d m k : ℕ) (g : Kind) (cs : List ℕ) (rest : Contents) where
 -- ---- a line that was cut at byte `at`, by its sort
 
 module _ (n d m k : ℕ) (s : List ℕ) (at : ℕ) (line : List ℕ) (q : line ≡ before lf (drop at s)) (h : at ≤ length s) (l : at + length line < length s) where
+  -- what stands after its LF
   abbrev rest : List ℕ
   rest = drop (at + length line + 1) s
 
+  -- the form is what the line and the rest make of it
   judged : formOf (linesFrom n d m k [] (drop at s)) ≡ formOf (judge (kindOf d m line) n d m k rest (linesFrom n d (m + 1) (k + 1) [] rest))
   judged = ap formOf (lines-at n d m k s at line q h l)
 
@@ -128,6 +137,7 @@ module _ (n d m k : ℕ) (s : List ℕ) (at : ℕ) (line : List ℕ) (q : line �
 
 -- ---- the sheet's end
 
+-- where nothing is left, line k is missing
 pub lines-none : (n d m k : ℕ) (s : List ℕ) (at : ℕ) → length s ≤ at → linesFrom n d m k [] (drop at s) ≡ broken k
 unfolding linesFrom
 lines-none n d m k s at h = rw (drop-of-length-le s h)

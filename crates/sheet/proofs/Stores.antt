@@ -20,14 +20,17 @@ use Rattle.sheet.proofs.First.{sheet-begun, sheetable}
 
 -- ---- the parts of what a sheet says
 
+-- N
 abbrev pub nodesOf : Contents → ℕ
 nodesOf (whole n d m words asks) = n
 nodesOf (broken k) = 0
 
+-- d
 abbrev pub criteriaOf : Contents → ℕ
 criteriaOf (whole n d m words asks) = d
 criteriaOf (broken k) = 0
 
+-- the numbers of `ask`
 abbrev pub askedOf : Contents → List ℕ
 askedOf (whole n d m words asks) = asks
 askedOf (broken k) = []
@@ -39,6 +42,7 @@ whole-was (whole n d m words asks) f e =
     ap (λ (f : Form). whole (f .nodes) (f .criteria) (f .arcs) words asks) q
 whole-was (broken k) f e = let z : _≡_ {A = ℕ} 0 1 = cc in absurd (omega arith)
 
+-- its request
 pub form-request : (p : Contents) (f : Form) → formOf p ≡ Whole f → requestFor f ≡ requestOf p
 form-request (whole n d m words asks) f e =
     let q : record { nodes = n; criteria = d; arcs = m; ask = askedFrom asks } ≡ f = cc in
@@ -53,6 +57,7 @@ form-sheetable s f e =
 
 -- ---- i of the m arcs are stored, in p words, and the next line begins at byte `at`
 
+-- the lines from byte `at` on say the words from word p on
 abbrev pub Going : List ℕ → ℕ → ℕ → ℕ → ℕ → Type 0
 Going s m at p i =
     linesFrom (nodesOf (sheetOf s)) (criteriaOf (sheetOf s)) i (i + 2) [] (drop at s)
@@ -64,6 +69,7 @@ pub record Starts (s : List ℕ) (f : Form) (line : List ℕ) : Type 0 where
   pub criteria : criteriaOf (sheetOf s) ≡ f .criteria
   pub going : Going s (f .arcs) (length line + 1) 0 0
 
+-- the first line of a whole sheet of form f
 pub starts : (s : List ℕ) (f : Form) (line : List ℕ) → line ≡ before lf s → formOf (sheetOf s) ≡ Whole f → Starts s f line
 starts s f line q e =
     let w = whole-was (sheetOf s) f e in
@@ -83,12 +89,15 @@ pub record Steps (s : List ℕ) (m at p i n : ℕ) (line : List ℕ) : Type 0 wh
   pub going : Going s m (at + length line + 1) (p + n) (i + 1)
 
 module _ (ws vs more : List ℕ) (p n : ℕ) (e : drop p ws ≡ vs ++ more) (w : length vs ≡ n) where
+  -- the words up to the end of this arc
   take-more : take (p + n) ws ≡ take p ws ++ vs
   take-more = take-add p n ws ∙ rw (e, ← w, take-append-seam)
 
+  -- the words after it
   drop-more : drop (p + n) ws ≡ more
   drop-more = sym (drop-drop n p ws) ∙ rw (e, ← w) (drop-append-seam vs more)
 
+-- while fewer than m arcs are stored, there is one more
 pub steps : (s : List ℕ) (m at p i n : ℕ) (line : List ℕ) → n ≡ criteriaOf (sheetOf s) + 2 → line ≡ before lf (drop at s) → at ≤ length s → i < m
     → p ≤ length (wordsOf (sheetOf s)) → Going s m at p i → Steps s m at p i n line
 steps s m at p i n line c q h l u g =
@@ -119,9 +128,11 @@ going-end s m at p i l u g =
 
 -- ---- the store of one arc's words
 
+-- the part that is lent for an arc has n words
 pub mid-length : (out : List ℕ) (p n : ℕ) → p + n ≤ length out → length (take (p + n - p) (drop p out)) ≡ n
 mid-length out p n h = length-take-le (p + n - p) (drop p out) (rw length-drop (omega arith)) ∙ omega arith
 
+-- an arc's words come back right after those before
 pub stored : (out₀ out ws vs ys : List ℕ) (p n : ℕ) → out ≡ write out₀ 0 (take p ws) → take (p + n) ws ≡ take p ws ++ vs → length vs ≡ n
     → p ≤ length ws → p + n ≤ length out → ys ≡ vs
     → take p out ++ (ys ++ drop (p + n - p) (drop p out)) ≡ write out₀ 0 (take (p + n) ws)

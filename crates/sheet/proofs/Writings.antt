@@ -29,19 +29,23 @@ writing-said-once (Refused q) (Refused r) e = ap Refused (same-refusal q r e)
 
 -- ---- the tests of rows 3 and 7
 
+-- the second holds
 or-true : (a : Bool) → (a || true) ≡ true
 or-true true = refl
 or-true false = refl
 
+-- the first holds
 either-true : (a b : Bool) → a ≡ true → (a || b) ≡ true
 either-true a b e = ap (λ (t : Bool). t || b) e
 
+-- neither holds
 neither-true : (a b : Bool) → a ≡ false → b ≡ false → (a || b) ≡ false
 neither-true a b e f = ap (λ (t : Bool). t || b) e ∙ f
 
 -- ---- the first row that holds
 
 module _ (r : Request) (words sheet : List ℕ) where
+  -- the writer's table
   abbrev rows : List Row
   rows = writerRows r words (length sheet)
 
@@ -50,6 +54,7 @@ module _ (r : Request) (words sheet : List ℕ) where
     pub says : writingSaid w ≡ writeSays r words (length sheet)
     pub bytes : sheet′ ≡ sheetAfter r words sheet
 
+  -- a refusal: its number and place, and the bytes as they came
   refuses : (number place : ℕ) → weigh rows ≡ refused number place → Writes (refusedWriting number place) sheet
   unfolding writeSays sheetAfter
   refuses number place e = record { says = rw e refl; bytes = rw e refl }
@@ -58,6 +63,7 @@ module _ (r : Request) (words sheet : List ℕ) where
   pub writes-few : r .criteria < 2 → Writes (refusedWriting 3 0) sheet
   writes-few h = refuses 3 0 (weigh-held _ _ (true-is (either-true (ltb (r .criteria) 2) (ltb 3 (r .criteria)) (lt-ltb (r .criteria) 2 h))))
 
+  -- row 3, for d over 3
   pub writes-many : 3 < r .criteria → Writes (refusedWriting 3 0) sheet
   writes-many h =
       refuses 3 0 (weigh-held _ _ (true-is (ap (λ (t : Bool). ltb (r .criteria) 2 || t) (lt-ltb 3 (r .criteria) h) ∙ or-true (ltb (r .criteria) 2))))
@@ -113,5 +119,6 @@ module _ (r : Request) (words sheet : List ℕ) where
 
   -- ---- two answers that the promise allows are the same
 
+  -- they say the same, so they are the same; the bytes are given by an equation
   pub writes-once : (v w : Writing) (x y : List ℕ) → Writes v x → Writes w y → (v ≡ w) × (x ≡ y)
   writes-once v w x y a b = (writing-said-once v w (a .says ∙ sym (b .says)), a .bytes ∙ sym (b .bytes))

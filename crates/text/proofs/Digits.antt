@@ -14,11 +14,13 @@ use Rattle.text.specs.Number.{isDigit, digitsAfter, zeroAlone, number, d
 use Rattle.text.proofs.Fields.{lt-or-le}
 use Rattle.text.proofs.Numbers.{number-first}
 
+-- a number below 10 is one digit
 within-small : (k n : ℕ) → n < 10 → digitsWithin k n ≡ (48 + n) ∷ []
 unfolding digitsWithin
 within-small zero n h = refl
 within-small (suc k) n h = rw (lt-ltb n 10 h)
 
+-- any other has the digits of its tenth and one more
 within-more : (k n : ℕ) → 10 ≤ n → digitsWithin (suc k) n ≡ digitsWithin k (n / 10) ++ ((48 + n % 10) ∷ [])
 unfolding digitsWithin
 within-more k n h = rw (le-ltb n 10 h)
@@ -37,6 +39,7 @@ pub digits-small : (n : ℕ) → n < 10 → digits n ≡ (48 + n) ∷ []
 unfolding digits
 digits-small n h = within-small n n h
 
+-- from 10 on: the digits of the tenth, and one more
 pub digits-more : (n : ℕ) → 10 ≤ n → digits n ≡ digits (n / 10) ++ ((48 + n % 10) ∷ [])
 unfolding digits
 digits-more zero h = absurd (omega arith)
@@ -48,6 +51,7 @@ by-tens-within P small more zero n h = small n (omega arith)
 by-tens-within P small more (suc k) n h =
     ⊎-elim (λ s. small n s) (λ m. more n m (by-tens-within P small more k (n / 10) (omega arith))) (lt-or-le n 10)
 
+-- for every number
 pub by-tens : (P : ℕ → Type 0) → ((n : ℕ) → n < 10 → P n) → ((n : ℕ) → 10 ≤ n → P (n / 10) → P n) → (n : ℕ) → P n
 by-tens P small more n = by-tens-within P small more n n (omega arith)
 
@@ -60,19 +64,23 @@ digits-snoc v x h l =
 
 -- ---- read after write
 
+-- one digit more is read
 pub step-on : (v i c : ℕ) (cs : List ℕ) → 48 ≤ c → c ≤ 57 → v ≤ 9999999
     → digitsAfter v i (c ∷ cs) ≡ digitsAfter (v * 10 + (c - 48)) (i + 1) cs
 unfolding digitsAfter
 step-on v i c cs l h m = rw (le-leb 48 c l, le-leb c 57 h, le-leb v 9999999 m)
 
+-- the digits of n, and then t, are read as n with t to come
 abbrev Reads : ℕ → Type 0
 Reads n = (t : List ℕ) → n ≤ 99999999 → digitsAfter 0 0 (digits n ++ t) ≡ digitsAfter n (length (digits n)) t
 
+-- of one digit
 reads-small : (n : ℕ) → n < 10 → Reads n
 reads-small n s t h =
     let e : 0 * 10 + (48 + n - 48) ≡ n = omega arith in
     rw (digits-small n s) (step-on 0 0 (48 + n) t (omega arith) (omega arith) (omega arith) ∙ rw e)
 
+-- of more digits
 reads-more : (n : ℕ) → 10 ≤ n → Reads (n / 10) → Reads n
 reads-more n m ih t h =
     let e : n / 10 * 10 + (48 + n % 10 - 48) ≡ n = omega arith in
@@ -87,6 +95,7 @@ read-digits = by-tens Reads reads-small reads-more
 abbrev Begins : ℕ → Type 0
 Begins n = 0 < n → (0 < length (digits n)) × (getD (digits n) 0 0 ≡ 48 → ⊥)
 
+-- by tens
 begins : (n : ℕ) → Begins n
 begins = by-tens Begins
     (λ n s h. rw (digits-small n s) (omega arith, λ e. omega arith))
@@ -94,10 +103,12 @@ begins = by-tens Begins
     let b = ih (omega arith) in
     rw (digits-more n m, length-append, List·getD-append (digits (n / 10)) _ 0 0 (b .0)) (omega arith, b .1))
 
+-- 0 alone
 number-zero : (n : ℕ) → n < 1 → number (digits n) ≡ Value n
 unfolding number
 number-zero n s = let e : n ≡ 0 = omega arith in rw (e, digits-small 0 (omega arith))
 
+-- the digits of n are read as n
 pub number-digits : (n : ℕ) → n ≤ 99999999 → number (digits n) ≡ Value n
 unfolding digitsAfter
 number-digits n h =
@@ -110,10 +121,12 @@ number-digits n h =
 
 -- ---- write after read
 
+-- a choice that gives a value took the side that gives it
 cond-is : (b : Bool) (x : Number) (i n : ℕ) → cond b x (Fault i) ≡ Value n → (b ≡ true) × (x ≡ Value n)
 cond-is true x i n e = (refl, e)
 cond-is false x i n e = let z : _≡_ {A = ℕ} 0 1 = cc in absurd (omega arith)
 
+-- two tests that both came out true
 and-both : (a b : Bool) → (a && b) ≡ true → (a ≡ true) × (b ≡ true)
 and-both true b e = (refl, e)
 and-both false b e = (e, absurd (false≢true e))
@@ -128,6 +141,7 @@ step-was v i c n cs e =
     let d = and-both (leb 48 c) (leb c 57) (b .0) in
     (leb-true 48 c (d .0), leb-true c 57 (d .1), leb-true v 9999999 (b .1), a .1)
 
+-- what is read after v is the digits that follow those of v
 digits-read : (v i n : ℕ) (s : List ℕ) → 1 ≤ v → v ≤ 99999999 → digitsAfter v i s ≡ Value n → (digits n ≡ digits v ++ s) × (n ≤ 99999999)
 unfolding digitsAfter
 digits-read v i n [] p h e = let q : v ≡ n = cc in (ap digits (sym q) ∙ sym (append-nil (digits v)), omega arith)
@@ -140,12 +154,14 @@ digits-read v i n (c ∷ cs) p h e =
     let q : 48 + (c - 48) ≡ c = omega arith in
     (ih .0 ∙ rw (digits-snoc v (c - 48) p (omega arith), q) (append-assoc (digits v) (c ∷ []) cs), ih .1)
 
+-- a field that begins with 0 is 0 alone
 number-was-zero : (c n : ℕ) (cs : List ℕ) → c ≡ 48 → zeroAlone cs ≡ Value n → (c ∷ cs ≡ digits n) × (n ≤ 99999999)
 number-was-zero c n [] q e =
     let z : 0 ≡ n = cc in
     (rw (← z, digits-small 0 (omega arith), q), omega arith)
 number-was-zero c n (x ∷ cs) q e = let z : _≡_ {A = ℕ} 0 1 = cc in absurd (omega arith)
 
+-- any other that is read begins with its first digit
 number-was-other : (c n : ℕ) (cs : List ℕ) → (c ≡ 48 → ⊥) → digitsAfter 0 0 (c ∷ cs) ≡ Value n → (c ∷ cs ≡ digits n) × (n ≤ 99999999)
 number-was-other c n cs q e =
     let w = step-was 0 0 c n cs e in
@@ -174,9 +190,11 @@ number-iff s n = (number-was s n, λ h. ap number (h .0) ∙ number-digits n (h 
 
 -- ---- how many digits there are
 
+-- one digit below 10
 pub width-small : (n : ℕ) → n < 10 → length (digits n) ≡ 1
 width-small n h = rw (digits-small n h)
 
+-- one more than the tenth has
 pub width-more : (n : ℕ) → 10 ≤ n → length (digits n) ≡ length (digits (n / 10)) + 1
 width-more n h = rw (digits-more n h, length-append)
 

@@ -13,6 +13,7 @@ use borrow.Author.Tests.{ltb-true, ltb-false, eq-eqb, ne-eqb, eqb-true}
 use Rattle.words.specs.Pieces.{write}
 use Rattle.text.specs.Field.{before, common}
 
+-- of two numbers the first is below the second, or not
 pub lt-or-le : (a b : ℕ) → (a < b) ⊎ (b ≤ a)
 lt-or-le a b = go (ltb a b) refl
   where
@@ -22,9 +23,11 @@ lt-or-le a b = go (ltb a b) refl
 
 -- ---- one byte more, as the code counts
 
+-- the rest begins with the byte at i
 pub drop-next : (i : ℕ) (s : List ℕ) → i < length s → drop i s ≡ getD s i 0 ∷ drop (i + 1) s
 drop-next i s h = rw add-one (drop-cons s i 0 h)
 
+-- the front ends with it
 pub take-next : (i : ℕ) (s : List ℕ) → i < length s → take (i + 1) s ≡ take i s ++ (getD s i 0 ∷ [])
 take-next i s h = rw add-one (take-suc s i 0 h)
 
@@ -32,7 +35,9 @@ take-next i s h = rw add-one (take-suc s i 0 h)
 pub rest-is : (s : List ℕ) (b : ℕ) → take (length s - b) (drop b s) ≡ drop b s
 rest-is s b = take-all (length s - b) (drop b s) (simp length-drop (omega arith))
 
--- ---- a store of one byte, and a write of nothing
+-- ---- short writes
+
+-- a store of one byte
 pub set-write : (l : List ℕ) (i v : ℕ) → set l i v ≡ write l i (v ∷ [])
 unfolding write
 set-write [] i v = refl
@@ -40,6 +45,7 @@ set-write (x ∷ []) zero v = refl
 set-write (x ∷ (y ∷ l)) zero v = refl
 set-write (x ∷ l) (suc i) v = ap (λ (r : List ℕ). x ∷ r) (set-write l i v)
 
+-- a write of nothing
 pub write-none : (l : List ℕ) (at : ℕ) → write l at [] ≡ l
 unfolding write
 write-none [] at = refl
@@ -48,14 +54,17 @@ write-none (x ∷ l) (suc at) = ap (λ (r : List ℕ). x ∷ r) (write-none l at
 
 -- ---- the bytes before b
 
+-- b itself ends the stretch
 pub before-stop : (b i : ℕ) (s : List ℕ) → i < length s → getD s i 0 ≡ b → before b (drop i s) ≡ []
 unfolding before
 before-stop b i s h e = rw (drop-next i s h, eq-eqb (getD s i 0) b e)
 
+-- any other byte is passed
 pub before-on : (b i : ℕ) (s : List ℕ) → i < length s → (getD s i 0 ≡ b → ⊥) → before b (drop i s) ≡ getD s i 0 ∷ before b (drop (i + 1) s)
 unfolding before
 before-on b i s h e = rw (drop-next i s h, ne-eqb (getD s i 0) b e)
 
+-- the end of the list ends it too
 pub before-end : (b i : ℕ) (s : List ℕ) → length s ≤ i → before b (drop i s) ≡ []
 unfolding before
 before-end b i s h = rw (drop-of-length-le s h)
@@ -65,10 +74,12 @@ pub before-pass : (b c : ℕ) (cs : List ℕ) → (c ≡ b → ⊥) → before b
 unfolding before
 before-pass b c cs h = rw (ne-eqb c b h)
 
+-- b at once: nothing stands before it
 pub before-first : (b : ℕ) (cs : List ℕ) → before b (b ∷ cs) ≡ []
 unfolding before
 before-first b cs = rw (eq-eqb b b refl)
 
+-- it is no longer than the list
 pub before-length : (b : ℕ) (s : List ℕ) → length (before b s) ≤ length s
 unfolding before
 before-length b [] = omega arith
@@ -101,7 +112,7 @@ before-found b (c ∷ cs) h = go (eqb c b) refl (before-found b cs) h
     go true q ih h = ap (λ (x : ℕ). x ∷ cs) (eqb-true c b q)
     go false q ih h = ap (λ (l : List ℕ). c ∷ l) (ih (omega arith))
 
--- a field that ends within cs does not turn on what follows cs; one that does not goes on
+-- one that ends within cs does not turn on what follows cs
 pub before-inside : (b : ℕ) (cs u : List ℕ) → length (before b cs) < length cs → before b (cs ++ u) ≡ before b cs
 unfolding before
 before-inside b [] u h = absurd (omega arith)
@@ -112,6 +123,7 @@ before-inside b (c ∷ cs) u h = go (eqb c b) (before-inside b cs u) h
     go true ih h = refl
     go false ih h = ap (λ (l : List ℕ). c ∷ l) (ih (omega arith))
 
+-- one that does not end within cs goes on
 pub before-through : (b : ℕ) (cs u : List ℕ) → length cs ≤ length (before b cs) → before b (cs ++ u) ≡ cs ++ before b u
 unfolding before
 before-through b [] u h = refl
@@ -122,24 +134,29 @@ before-through b (c ∷ cs) u h = go (eqb c b) (before-through b cs u) h
     go true ih h = absurd (omega arith)
     go false ih h = ap (λ (l : List ℕ). c ∷ l) (ih (omega arith))
 
+-- its front is that of the list
 pub take-before : (b i : ℕ) (s : List ℕ) → i ≤ length (before b s) → take i s ≡ take i (before b s)
 take-before b i s h = ap (take i) (sym (before-split b s)) ∙ take-append-le i (before b s) (drop (length (before b s)) s) h
 
 -- ---- bytes in common with a word, at index i
 
 module _ (i : ℕ) (w l : List ℕ) where
+  -- the word is at its end
   pub common-done : length w ≤ i → common (drop i w) (drop i l) ≡ 0
   unfolding common
   common-done h = rw (drop-of-length-le w h)
 
+  -- the line is at its end
   pub common-short : i < length w → length l ≤ i → common (drop i w) (drop i l) ≡ 0
   unfolding common
   common-short h k = rw (drop-next i w h, drop-of-length-le l k)
 
+  -- two bytes differ
   pub common-stop : i < length w → i < length l → (getD l i 0 ≡ getD w i 0 → ⊥) → common (drop i w) (drop i l) ≡ 0
   unfolding common
   common-stop h k e = rw (drop-next i w h, drop-next i l k, ne-eqb (getD l i 0) (getD w i 0) e)
 
+  -- two bytes agree
   pub common-on : i < length w → i < length l → getD l i 0 ≡ getD w i 0
       → common (drop i w) (drop i l) ≡ common (drop (i + 1) w) (drop (i + 1) l) + 1
   unfolding common
@@ -151,6 +168,7 @@ unfolding common
 common-append [] t = refl
 common-append (x ∷ w) t = rw (eq-eqb x x refl, common-append w t) (add-one (length w))
 
+-- and it then begins with the word
 pub common-was : (w line : List ℕ) → length w ≤ common w line → line ≡ w ++ drop (length w) line
 unfolding common
 common-was [] line h = refl
@@ -164,6 +182,7 @@ common-was (x ∷ w) (c ∷ l) h = go (eqb c x) refl (common-was w l) h
 
 -- ---- bytes in common with a word, where the line goes on otherwise
 
+-- a byte that differs within p decides
 pub common-local : (w p u u′ : List ℕ) → common w (p ++ u) < length w → common w (p ++ u) < length p → common w (p ++ u′) ≡ common w (p ++ u)
 unfolding common
 common-local [] p u u′ h l = refl
@@ -176,6 +195,7 @@ common-local (x ∷ w) (c ∷ p) u u′ h l = go (eqb c x) (common-local w p u u
     go true ih h l = ap (λ (i : ℕ). i + 1) (ih (omega arith) (omega arith))
     go false ih h l = refl
 
+-- a word that ends within p is there whatever follows
 pub common-whole : (w p u u′ : List ℕ) → length w ≤ length p → length w ≤ common w (p ++ u) → length w ≤ common w (p ++ u′)
 unfolding common
 common-whole [] p u u′ l h = omega arith
@@ -187,6 +207,7 @@ common-whole (x ∷ w) (c ∷ p) u u′ l h = go (eqb c x) (common-whole w p u u
     go true ih h = let k = ih (omega arith) (omega arith) in omega arith
     go false ih h = absurd (omega arith)
 
+-- so far word and line agree
 pub common-take : (w line : List ℕ) → take (common w line) line ≡ take (common w line) w
 unfolding common
 common-take [] line = refl
@@ -197,6 +218,7 @@ common-take (x ∷ w) (c ∷ l) = go (eqb c x) refl (common-take w l)
     go true q ih = rw (add-one (common w l), eqb-true c x q) (ap (λ (r : List ℕ). x ∷ r) ih)
     go false q ih = refl
 
+-- no more than the line has
 pub common-most : (w line : List ℕ) → common w line ≤ length line
 unfolding common
 common-most [] line = omega arith

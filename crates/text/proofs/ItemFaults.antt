@@ -24,6 +24,7 @@ placed-wrong : (at l j : ℕ) (g : Number) → placed at l g ≡ Wrong j → (i 
 placed-wrong at l j (Value v) e = let z : _≡_ {A = ℕ} 0 1 = cc in absurd (omega arith)
 placed-wrong at l j (Fault i) e = let q : at + 1 + i ≡ j = cc in (i, refl, sym q)
 
+-- a number ends with its field
 placed-found : (at l v e : ℕ) (g : Number) → placed at l g ≡ Found v e → e ≡ at + 1 + l
 placed-found at l v e (Value w) h = let q : at + 1 + l ≡ e = cc in sym q
 placed-found at l v e (Fault i) h = let z : _≡_ {A = ℕ} 0 1 = cc in absurd (omega arith)

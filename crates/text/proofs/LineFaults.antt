@@ -26,6 +26,7 @@ answer-of : (v : ℕ) (g : Got) → answerOf (prepend v g) ≡ answerOf g
 answer-of v (good vs) = refl
 answer-of v (bad i vs) = refl
 
+-- so a fault after it is the same fault
 bad-of : (v j : ℕ) (g : Got) → answerOf (prepend v g) ≡ Bad j → answerOf g ≡ Bad j
 bad-of v j g e = sym (answer-of v g) ∙ e
 
@@ -202,6 +203,7 @@ module _ (sep : ℕ) where
       go ih (Wrong i) q k = let a : i ≡ j = cc in omega (arith, item-most sep at i (drop at line) q, length-drop at line)
       go ih (Found v e) q k = ih e j (omega (arith, item-found-most sep at v e (drop at line) q, length-drop at line)) (bad-of v j (numbers sep n line e) k)
 
+  -- and so with its word
   lineOf-most : (w : List ℕ) (n : ℕ) (line : List ℕ) (j : ℕ) → answerOf (lineOf sep w n line) ≡ Bad j → j ≤ length line
   unfolding lineOf
   lineOf-most w n line j e = go (ltb (common w line) (length w)) refl e

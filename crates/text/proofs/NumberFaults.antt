@@ -36,6 +36,7 @@ after-local v k j (c ∷ cs) u u′ e l = go (isDigit c && leb v 9999999) (after
     go true ih e = ih e (omega arith)
     go false ih e = e
 
+-- nor does a fault within a field
 pub number-local : (j : ℕ) (cs u u′ : List ℕ) → number (cs ++ u) ≡ Fault j → j < length cs → number (cs ++ u′) ≡ Fault j
 unfolding number
 number-local j [] u u′ e l = absurd (omega arith)
@@ -80,6 +81,7 @@ after-good v k j (c ∷ cs) e = go (isDigit c && leb v 9999999) refl (after-good
         let m : j - k ≡ 0 = omega arith in
         (v, rw m)
 
+-- or begins with it and goes on
 pub number-begins : (j : ℕ) (s : List ℕ) → number s ≡ Fault j → (t : List ℕ) × (n : ℕ) × (number (take j s ++ t) ≡ Value n)
 unfolding number
 number-begins j [] e = let q : 0 ≡ j = cc in (48 ∷ [], 0, rw (← q))

@@ -18,6 +18,7 @@ use Rattle.text.proofs.Digits.{digits-small, digits-more}
 pub write-byte : (l ys : List ℕ) (at e v : ℕ) → e ≡ at + length ys → set (write l at ys) e v ≡ write l at (ys ++ (v ∷ []))
 write-byte l ys at e v p = rw (p, set-write (write l at ys) (at + length ys) v) (write-append l at ys (v ∷ []))
 
+-- the next byte of w
 pub put-next : (l w : List ℕ) (at i : ℕ) → i < length w → set (write l at (take i w)) (at + i) (getD w i 0) ≡ write l at (take (i + 1) w)
 put-next l w at i h =
     let k : length (take i w) ≡ i = length-take-le i w (omega arith) in
@@ -25,9 +26,11 @@ put-next l w at i h =
 
 -- ---- digits
 
+-- one digit
 pub put-small : (l : List ℕ) (at n : ℕ) → n < 10 → set l at (48 + n % 10) ≡ write l at (digits n)
 put-small l at n h = let e : n % 10 ≡ n = omega arith in rw (digits-small n h, e) (set-write l at (48 + n))
 
+-- the last digit, after those of the tenth
 pub put-more : (l m : List ℕ) (at e n : ℕ) → 10 ≤ n → e ≡ at + length (digits (n / 10)) → m ≡ write l at (digits (n / 10))
     → set m e (48 + n % 10) ≡ write l at (digits n)
 put-more l m at e n h p q = rw (q, digits-more n h) (write-byte l (digits (n / 10)) at e (48 + n % 10) p)
@@ -35,22 +38,27 @@ put-more l m at e n h p q = rw (q, digits-more n h) (write-byte l (digits (n / 1
 -- ---- numbers
 
 module _ (sep : ℕ) where
+  -- numbers one after another
   pub parted-append : (xs ys : List ℕ) → parted sep (xs ++ ys) ≡ parted sep xs ++ parted sep ys
   unfolding parted
   parted-append [] ys = refl
   parted-append (x ∷ xs) ys = ap (λ (l : List ℕ). sep ∷ l) (rw (parted-append xs ys) (sym (append-assoc (digits x) (parted sep xs) (parted sep ys))))
 
+  -- one number
   parted-one : (v : ℕ) → parted sep (v ∷ []) ≡ sep ∷ digits v
   unfolding parted
   parted-one v = ap (λ (l : List ℕ). sep ∷ l) (append-nil (digits v))
 
+  -- one number more
   parted-next : (vs : List ℕ) (i : ℕ) → i < length vs → parted sep (take (i + 1) vs) ≡ parted sep (take i vs) ++ (sep ∷ digits (getD vs i 0))
   parted-next vs i h = rw (take-next i vs h, parted-append, parted-one)
 
+  -- where it ends
   pub parted-end : (vs : List ℕ) (i : ℕ) → i < length vs
       → length (parted sep (take (i + 1) vs)) ≡ length (parted sep (take i vs)) + 1 + length (digits (getD vs i 0))
   parted-end vs i h = rw (parted-next vs i h, length-append) (omega arith)
 
+  -- the first i take no more bytes than all
   pub parted-room : (vs : List ℕ) (i : ℕ) → length (parted sep (take i vs)) ≤ length (parted sep vs)
   parted-room vs i =
       let e : length (parted sep vs) ≡ length (parted sep (take i vs)) + length (parted sep (drop i vs)) =
@@ -58,6 +66,7 @@ module _ (sep : ℕ) where
       ∙ length-append (parted sep (take i vs)) (parted sep (drop i vs)) in
       omega arith
 
+  -- none is written
   pub parted-none : (l : List ℕ) (at : ℕ) → (at ≡ at + length (parted sep [])) × (l ≡ write l at (parted sep []))
   unfolding parted
   parted-none l at = (omega arith, sym (write-none l at))
@@ -73,10 +82,12 @@ module _ (sep : ℕ) where
 
   -- ---- lines
 
+  -- a word, numbers and the LF
   pub line-length : (w vs : List ℕ) → length (lineText sep w vs) ≡ length w + length (parted sep vs) + 1
   unfolding lineText
   line-length w vs = simp length-append
 
+  -- one after another they are the line
   pub line-put : (l w vs x y : List ℕ) (at a b : ℕ) → a ≡ at + length w → x ≡ write l at w → b ≡ a + length (parted sep vs) → y ≡ write x a (parted sep vs)
       → (b + 1 ≡ at + length (lineText sep w vs)) × (set y b 10 ≡ write l at (lineText sep w vs))
   unfolding lineText
@@ -88,18 +99,22 @@ module _ (sep : ℕ) where
 
 -- ---- how many bytes numbers take
 
+-- the same whatever parts them
 pub parted-width : (sep : ℕ) (vs : List ℕ) → length (parted sep vs) ≡ partedWidth vs
 unfolding parted partedWidth
 parted-width sep [] = refl
 parted-width sep (v ∷ vs) = ap suc (length-append (digits v) (parted sep vs) ∙ ap (λ (k : ℕ). length (digits v) + k) (parted-width sep vs)) ∙ omega arith
 
+-- none of them
 pub width-none : (vs : List ℕ) → partedWidth (take 0 vs) ≡ 0
 unfolding partedWidth
 width-none vs = refl
 
+-- one more
 pub width-next : (vs : List ℕ) (i : ℕ) → i < length vs → partedWidth (take (i + 1) vs) ≡ partedWidth (take i vs) + 1 + length (digits (getD vs i 0))
 width-next vs i h = rw (← parted-width 0 (take (i + 1) vs), ← parted-width 0 (take i vs)) (parted-end 0 vs i h)
 
+-- numbers one after another
 pub width-append : (xs ys : List ℕ) → partedWidth (xs ++ ys) ≡ partedWidth xs + partedWidth ys
 width-append xs ys =
     rw (← parted-width 0 (xs ++ ys), ← parted-width 0 xs, ← parted-width 0 ys, parted-append 0 xs ys) (length-append (parted 0 xs) (parted 0 ys))

@@ -33,6 +33,7 @@ before-digits b l = by-tens (λ (n : ℕ). (t : List ℕ) → before b (digits n
     (sym (append-assoc (digits (n / 10)) ((48 + n % 10) ∷ []) (before b t))))
 
 module _ (sep : ℕ) (low : sep < 48) where
+  -- a number ends where sep stands
   before-parted : (vs : List ℕ) → before sep (parted sep vs) ≡ []
   unfolding parted before
   before-parted [] = refl
@@ -45,6 +46,7 @@ module _ (sep : ℕ) (low : sep < 48) where
       let f : before sep (digits v ++ parted sep vs) ≡ digits v = before-digits sep low v (parted sep vs) ∙ rw (before-parted vs) (append-nil (digits v)) in
       rw (eq-eqb sep sep refl, f, number-digits v h)
 
+  -- numbers as they are written, after any bytes
   numbers-parted : (vs pre : List ℕ) → AtMost largest vs → numbers sep (length vs) (pre ++ parted sep vs) (length pre) ≡ good vs
   unfolding parted
   numbers-parted [] pre h = numbers-end sep (pre ++ []) (length pre) (rw append-nil (omega arith))
@@ -57,6 +59,7 @@ module _ (sep : ℕ) (low : sep < 48) where
       numbers-more sep (length vs) (pre ++ (sep ∷ (digits v ++ parted sep vs))) (length pre) v (length pre + 1 + length (digits v)) q
       ∙ ap (prepend v) (rw (a, b) at ih)
 
+  -- a word and numbers as they are written
   pub lineOf-parted : (w vs : List ℕ) → AtMost largest vs → lineOf sep w (length vs) (w ++ parted sep vs) ≡ good vs
   lineOf-parted w vs h =
       let e : length w ≡ common w (w ++ parted sep vs) = sym (common-append w (parted sep vs)) in
@@ -71,6 +74,7 @@ pub record Placed (sep at v e : ℕ) (r : List ℕ) : Type 0 where
   pub after : e ≡ at + 1 + length (digits v)
   pub small : v ≤ largest
 
+-- an item that was found was written so
 pub item-was : (sep at v e : ℕ) (r : List ℕ) → item sep at r ≡ Found v e → Placed sep at v e r
 unfolding item
 item-was sep at v e [] h = let z : _≡_ {A = ℕ} 0 1 = cc in absurd (omega arith)
@@ -102,9 +106,11 @@ placed-rest sep at v e line p =
     ∙ ap (drop (suc (length (digits v)))) (p .so)
     ∙ drop-append-seam (digits v) (p .rest)
 
+-- what is left of a line is n numbers as they are written
 abbrev Was : ℕ → ℕ → List ℕ → ℕ → List ℕ → Type 0
 Was sep n line at vs = (drop at line ≡ parted sep vs) × (length vs ≡ n) × AtMost largest vs
 
+-- numbers that were read were written so
 numbers-was : (sep n : ℕ) (line : List ℕ) (at : ℕ) (vs : List ℕ) → numbers sep n line at ≡ good vs → Was sep n line at vs
 unfolding numbers parted
 numbers-was sep zero line at vs h = go (ltb at (length line)) refl vs h
@@ -132,6 +138,7 @@ numbers-was sep (suc n) line at vs h = go (numbers-was sep n line) (item sep at 
     go ih (Wrong j) q k = let z : _≡_ {A = ℕ} 0 1 = cc in absurd (omega arith)
     go ih (Found v e) q k = after v e q (ih e) (numbers sep n line e) refl vs k
 
+-- and so was a line
 pub lineOf-was : (sep : ℕ) (w : List ℕ) (n : ℕ) (line vs : List ℕ) → lineOf sep w n line ≡ good vs → (line ≡ w ++ parted sep vs) × (length vs ≡ n) × AtMost largest vs
 unfolding lineOf
 lineOf-was sep w n line vs h = go (ltb (common w line) (length w)) refl h
