@@ -11,6 +11,7 @@ pub mod Writings
 pub mod Rendered
 pub mod Accepted
 pub mod Clear
+pub mod Told
 pub mod RoundTrips
 pub mod Examples
 pub mod FirstBad

@@ -11,8 +11,6 @@ use lib.Seq.{drop-append-seam, take-append-seam, length-take-le}
 use lib.Dec.{eqb}
 use Rattle.words.specs.Pieces.{write}
 use Rattle.words.specs.Bounds.{AtMost}
-use Rattle.words.specs.Rows.{weigh}
-use Rattle.words.proofs.Writes.{part-write-same}
 use Rattle.words.proofs.Bounds.{atMost-at, atMost-none, atMost-cons, atMost-append, atMost-take, atMost-drop}
 use Rattle.request.specs.declared.Request.{Request}
 use Rattle.text.specs.Number.{largest, anyOver}
@@ -23,8 +21,8 @@ use Rattle.sheet.specs.declared.Writing.the-variants.{Bytes}
 use Rattle.sheet.specs.Grammar.{whole, sheetOf}
 use Rattle.sheet.specs.Rendering.{sheetText, Sheetable}
 use Rattle.sheet.specs.Inside.{formOf}
-use Rattle.sheet.specs.Reader.{said, wordsOf, requestFrom, requestOf, readerRows, readSays, readRequest, arcsAfter}
-use Rattle.sheet.specs.Writer.{writingSaid, askNumbers, asksOf, numbersOf, written, writerRows, writeSays, sheetAfter, Ranged}
+use Rattle.sheet.specs.Reader.{said, wordsOf, requestFrom, requestOf, readSays, readRequest, arcsAfter}
+use Rattle.sheet.specs.Writer.{writingSaid, askNumbers, asksOf, numbersOf, written, writeSays, sheetAfter, Ranged}
 use Rattle.sheet.specs.RoundTrip.{SameBytes, comesBack, SameNumbers}
 use Rattle.sheet.proofs.First.{sheetable}
 use Rattle.sheet.proofs.Accepted.{sheet-was}
@@ -32,7 +30,8 @@ use Rattle.sheet.proofs.Rendered.{sheet-written}
 use Rattle.sheet.proofs.Lengths.{whole-arcs}
 use Rattle.sheet.proofs.Answers.{reads-sheet}
 use Rattle.sheet.proofs.Writings.{writes-sheet}
-use Rattle.sheet.proofs.Clear.{told-clear, readable, Writable, writable}
+use Rattle.sheet.proofs.Clear.{Writable}
+use Rattle.sheet.proofs.Told.{read-told, written-told}
 
 -- ---- the numbers of `ask`, of which there are four or six
 
@@ -92,10 +91,6 @@ asks-long r h = length-take-le (r .criteria * 2) (askNumbers r) (omega arith)
 
 -- ---- read, and written back
 
--- the front that was written
-front-is : (l ys : List ℕ) (n : ℕ) → length ys ≤ length l → n ≡ length ys → take n (write l 0 ys) ≡ ys
-front-is l ys n h e = ap (λ (k : ℕ). take k (write l 0 ys)) e ∙ part-write-same l 0 ys (omega arith)
-
 -- what a sheet says, written
 module _ (n d m : ℕ) (s words asks : List ℕ) (e : sheetOf s ≡ whole n d m words asks) where
   -- the request that is read
@@ -146,14 +141,9 @@ module _ (n d m : ℕ) (s words asks : List ℕ) (e : sheetOf s ≡ whole n d m 
 
 -- A SHEET THAT IS READ AND WRITTEN BACK GIVES THE SAME BYTES
 pub same-bytes : SameBytes
-unfolding readSays readRequest arcsAfter
 same-bytes s arcs sheet n e h =
-    let t = told-clear (weigh (readerRows s (length arcs))) (length (wordsOf (sheetOf s))) n e in
-    let r = readable s (length arcs) (t .0) in
-    let w : wordsOf (sheetOf s) ≡ r .words = ap wordsOf (r .so) in
-    let f : take n (write arcs 0 (wordsOf (sheetOf s))) ≡ r .words = front-is arcs (wordsOf (sheetOf s)) n (rw w (r .fits)) (sym (t .1)) ∙ w in
-    let q : requestOf (sheetOf s) ≡ requestFrom (r .nodes) (r .criteria) (r .asks) = ap requestOf (r .so) in
-    rw (t .0) (rw (f, q) (writes-back (r .nodes) (r .criteria) (r .arcs) s (r .words) (r .asks) (r .so) sheet (r .short) h))
+    let r = read-told s arcs n (sym e) in
+    rw (r .stored, r .request) (writes-back (r .nodes) (r .criteria) (r .arcs) s (r .words) (r .asks) (r .so) sheet (r .short) h)
 
 -- ---- written, and read back
 
@@ -190,12 +180,9 @@ reads-back r words arcs room w h =
 
 -- NUMBERS THAT ARE WRITTEN AND READ BACK ARE THE SAME NUMBERS, THE UNUSED RATIO 0 OVER 1
 pub same-numbers : SameNumbers
-unfolding writeSays sheetAfter
 same-numbers r words sheet arcs n e h =
-    let t = told-clear (weigh (writerRows r words (length sheet))) (length (written r words)) n e in
-    let w = writable r words (length sheet) (t .0) in
-    let f : take n (write sheet 0 (written r words)) ≡ written r words = front-is sheet (written r words) n (w .fits) (sym (t .1)) in
-    rw (t .0) (rw f (reads-back r words arcs (length sheet) w h))
+    let w = written-told r words sheet n (sym e) in
+    rw (w .stored) (reads-back r words arcs (length sheet) (w .can-be) h)
 
 -- with three criteria nothing is excepted
 four-are : (ratios : List ℕ) → length ratios ≡ 4 → getD ratios 0 0 ∷ getD ratios 1 0 ∷ getD ratios 2 0 ∷ getD ratios 3 0 ∷ [] ≡ ratios
