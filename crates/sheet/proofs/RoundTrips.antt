@@ -142,8 +142,9 @@ module _ (n d m : ℕ) (s words asks : List ℕ) (e : sheetOf s ≡ whole n d m 
 -- A SHEET THAT IS READ AND WRITTEN BACK GIVES THE SAME BYTES
 pub same-bytes : SameBytes
 same-bytes s arcs sheet n e h =
-    let r = read-told s arcs n (sym e) in
-    rw (r .stored, r .request) (writes-back (r .nodes) (r .criteria) (r .arcs) s (r .words) (r .asks) (r .so) sheet (r .short) h)
+    let t = read-told s arcs n (sym e) in
+    let r = t .sheet in
+    rw (t .stored, t .request) (writes-back (r .nodes) (r .criteria) (r .arcs) s (r .words) (r .asks) (r .so) sheet (r .short) h)
 
 -- ---- written, and read back
 

@@ -11,13 +11,13 @@ use Rattle.request.specs.declared.Request.{Request}
 use Rattle.request.specs.declared.Refusal.{Refusal}
 use Rattle.sheet.specs.declared.Outcome.the-variants.{Sheet, Refused}
 use Rattle.sheet.specs.declared.Writing.the-variants.{Bytes}
-use Rattle.sheet.specs.Grammar.{whole, sheetOf}
+use Rattle.sheet.specs.Grammar.{sheetOf}
 use Rattle.sheet.specs.Rendering.{Sheetable}
 use Rattle.sheet.specs.Answer.{told}
 use Rattle.sheet.specs.Reader.{said, wordsOf, requestFrom, requestOf, readerRows, readSays, readRequest, arcsAfter}
 use Rattle.sheet.specs.Writer.{refusedWriting, writingSaid, written, writerRows, writeSays, sheetAfter}
 use Rattle.sheet.proofs.First.{sheetable}
-use Rattle.sheet.proofs.Clear.{told-clear, readable, Writable, writable}
+use Rattle.sheet.proofs.Clear.{told-clear, Readable, readable, Writable, writable}
 
 -- the front that was written
 front-is : (l ys : List ℕ) (n : ℕ) → length ys ≤ length l → n ≡ length ys → take n (write l 0 ys) ≡ ys
@@ -35,18 +35,11 @@ told-refused (refused n p) k number place e =
 
 -- a sheet of n arc words was read: what it says, the request, and the words in front of the lent ones
 pub record SheetRead (s buffer : List ℕ) (n : ℕ) : Type 0 where
-  pub nodes : ℕ
-  pub criteria : ℕ
-  pub arcs : ℕ
-  pub words : List ℕ
-  pub asks : List ℕ
-  pub so : sheetOf s ≡ whole nodes criteria arcs words asks
-  pub can-be : Sheetable nodes criteria arcs words asks
-  pub short : length s ≤ 8192
-  pub count : n ≡ length words
-  pub fits : n ≤ length buffer
-  pub request : readRequest s (length buffer) ≡ requestFrom nodes criteria asks
-  pub stored : take n (arcsAfter s buffer) ≡ words
+  pub sheet : Readable s (length buffer)
+  pub can-be : Sheetable (sheet .nodes) (sheet .criteria) (sheet .arcs) (sheet .words) (sheet .asks)
+  pub count : n ≡ length (sheet .words)
+  pub request : readRequest s (length buffer) ≡ requestFrom (sheet .nodes) (sheet .criteria) (sheet .asks)
+  pub stored : take n (arcsAfter s buffer) ≡ sheet .words
 
 -- the request, where no row holds
 clear-request : (s : List ℕ) (room : ℕ) → weigh (readerRows s room) ≡ clear → readRequest s room ≡ requestOf (sheetOf s)
@@ -67,16 +60,9 @@ read-told s buffer n e =
     let w : wordsOf (sheetOf s) ≡ r .words = ap wordsOf (r .so) in
     let c : n ≡ length (r .words) = sym (t .1) ∙ ap length w in
     record {
-      nodes = r .nodes;
-      criteria = r .criteria;
-      arcs = r .arcs;
-      words = r .words;
-      asks = r .asks;
-      so = r .so;
+      sheet = r;
       can-be = sheetable (r .nodes) (r .criteria) (r .arcs) s (r .words) (r .asks) (r .so);
-      short = r .short;
       count = c;
-      fits = omega (arith, r .fits);
       request = clear-request s (length buffer) (t .0) ∙ ap requestOf (r .so);
       stored = ap (take n) (clear-arcs s buffer (t .0)) ∙ ap (λ (l : List ℕ). take n (write buffer 0 l)) w ∙ front-is buffer (r .words) n (r .fits) c;
     }

@@ -88,23 +88,13 @@ put-number-slice-write-out-2 : (t : ℕ) → put-number-lts.Need-slice-write-out
   put-number-below t,
   put-number.Post,
 ) (put-number-at t) put-number.Post
-put-number-slice-write-out-2 t c =
-    let a = c .before .before .before .before .before .before .args in
-    let w = width-more (a .n) (omega arith) in
-    let e = c .before .before .put-number .ensures .0 in
-    let k = c .before .before .put-number .kept .0 in
-    omega arith
+put-number-slice-write-out-2 t c = omega (arith, width-more (c .before .before .before .before .before .before .args .n) (omega arith), c .before .before .put-number .ensures .0, c .before .before .put-number .kept .0)
 
 put-number-add-result-2 : (t : ℕ) → put-number-lts.Need-add-result-2 (
   put-number-below t,
   put-number.Post,
 ) (put-number-at t) put-number.Post
-put-number-add-result-2 t c =
-    let a = c .before .before .before .before .before .before .args in
-    let w = width-more (a .n) (omega arith) in
-    let e = c .before .before .put-number .ensures .0 in
-    let k = c .before .before .put-number .kept .0 in
-    omega arith
+put-number-add-result-2 t c = omega (arith, width-more (c .before .before .before .before .before .before .args .n) (omega arith), c .before .before .put-number .ensures .0, c .before .before .put-number .kept .0)
 
 put-number-same-length-2 : (t : ℕ) → put-number-lts.Need-same-length-2 (
   put-number-below t,
