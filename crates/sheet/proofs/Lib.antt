@@ -1,0 +1,17 @@
+pub mod LineKinds
+pub mod Scan
+pub mod Arcs
+pub mod First
+pub mod Cuts
+pub mod Stores
+pub mod Answers
+pub mod Lengths
+pub mod Puts
+pub mod Writings
+pub mod Rendered
+pub mod Accepted
+pub mod Clear
+pub mod Told
+pub mod RoundTrips
+pub mod Examples
+pub mod FirstBad

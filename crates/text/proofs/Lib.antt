@@ -1,0 +1,9 @@
+pub mod Fields
+pub mod Numbers
+pub mod Digits
+pub mod Lines
+pub mod Written
+pub mod Puts
+pub mod NumberFaults
+pub mod ItemFaults
+pub mod LineFaults
