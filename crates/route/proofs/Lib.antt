@@ -1,2 +1,3 @@
 pub mod Comparing
 pub mod Places
+pub mod Holding
