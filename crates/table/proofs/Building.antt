@@ -35,7 +35,7 @@ use Rattle.tries.specs.Frame.{Sized, Framed}
 use Rattle.table.specs.declared.Built.{Built}
 use Rattle.table.specs.declared.Built.the-variants as built
 use Rattle.table.specs.Build.{buildRows, answer, builtOf, laddersAfter, labelsAfter, frameOf, ladderWords}
-use Rattle.table.proofs.Layers.{table-length}
+use Rattle.rounds.proofs.Table.{table-length}
 
 -- ---- the rows
 
