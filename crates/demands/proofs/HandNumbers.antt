@@ -13,14 +13,14 @@ use Rattle.demands.specs.HandNumbers.{HandNumbers, sheet, loop, equal, h
 pub hand-numbers : HandNumbers
 unfolding upTo total write at put join volume radix fence.fence fence.fences fence.passed fence.position fence.buckets lower ratioP ratioQ arcCount arc tail head arcCosts reach largestOf largest top buckets position cells cell costs step from filled empty start kept sum candidate came wins block blank startBlock startLayer keepCell keepBlock keepAll offer tryCell tryArc arcStep round layer labelOf labelAt filledIn roundTries tries sheet loop equal held
 hand-numbers = record {
-    one = refl;
-    two = (refl, refl);
-    three = refl;
-    four = refl;
-    five = (refl, refl, refl);
-    six = (refl, refl);
-    seven = (refl, refl);
-    eight = (refl, refl, refl, refl, refl);
-    nine = (refl, refl);
-    ten = refl;
-  }
+  one = refl;
+  two = (refl, refl);
+  three = refl;
+  four = refl;
+  five = (refl, refl, refl);
+  six = (refl, refl);
+  seven = (refl, refl);
+  eight = (refl, refl, refl, refl, refl);
+  nine = (refl, refl);
+  ten = refl;
+}

@@ -10,7 +10,7 @@ use Rattle.words.specs.Pieces.{part, at, write, join}
 use Rattle.words.proofs.Pieces.{at-at, join-at, join-length, piece-end}
 use Rattle.words.proofs.Writes.{part-write-inside}
 use Rattle.request.specs.Request.{Req, width}
-use Rattle.request.specs.Shape.{cells}
+use Rattle.request.specs.Shape.{cells, labelCount}
 use Rattle.request.specs.Accepted.{Regular}
 use Rattle.rounds.specs.Rounds.{span, block, layer, table, labelOf, labelAt}
 use Rattle.rounds.proofs.Round.{layer-length}
@@ -19,6 +19,14 @@ module _ (R : Req) (ok : Regular R) where
   pub table-length : length (table R) ≡ (R .hops + 1) * (R .nodes * span R)
   unfolding table
   table-length = join-length (R .nodes * span R) (layer R) (R .hops + 1) (λ i _. layer-length R ok i)
+
+  -- (K+1) × N × C labels of d+2 words
+  pub table-words : labelCount R * width R ≡ length (table R)
+  unfolding labelCount
+  table-words =
+      mul-assoc (R .hops + 1) (R .nodes * cells R) (width R)
+      ∙ ap (λ (n : ℕ). (R .hops + 1) * n) (mul-assoc (R .nodes) (cells R) (width R))
+      ∙ sym table-length
 
   module _ (i v c : ℕ) (hi : i ≤ R .hops) (hv : v < R .nodes) (hc : c < cells R) where
     -- "The label of layer i, node v, cell c starts at word ((i × N + v) × C + c) × (d+2)"
