@@ -3,14 +3,14 @@ use Prim.Native.Nat.{ℕ, zero, suc, _+_, _-_, _*_, _/_, _≤_, _<_}
 use mathlib.Core.Path.{_≡_, refl, sym, ap, _∙_, subst}
 use mathlib.Core.Logic.{_≢_, ⊎-elim}
 use mathlib.Core.List.{List, [], _∷_, _++_, append-assoc, append-nil}
-use native.Mathlib.Nat.{mul-le-mul-right, div-mul-le-self, le-refl, le-step, suc-mul, zero-mul, add-zero, add-suc, not-suc-le-zero, eq-or-lt-of-le, le-of-suc-le-suc}
+use native.Mathlib.Nat.{mul-le-mul-right, div-mul-le-self, le-refl, le-step, suc-mul, zero-mul, add-mul, mul-assoc, add-zero, add-suc, not-suc-le-zero, eq-or-lt-of-le, le-of-suc-le-suc}
 use native.Mathlib.Decide.{ℕ-discrete, decLt}
 use native.Mathlib.Omega.{arith}
 use lib.ListN.{length, getD, take, drop, length-append, length-drop}
 use lib.Seq.{take-append-le, drop-append-le, take-length, drop-at}
 use Rattle.words.specs.Loops.{upTo, total}
 use Rattle.words.specs.Pieces.{part, write, at, put, join}
-use Rattle.words.proofs.Writes.{length-part, getD-part, length-write, part-write-same, part-write-below, drop-write-above, part-append}
+use Rattle.words.proofs.Writes.{length-part, getD-part, length-write, part-write-same, part-write-below, drop-write-above, part-part, part-append}
 use Rattle.words.proofs.Loops.{upTo-next, upTo-ext, total-zero, total-suc, total-mono}
 
 module _ (w : ℕ) where
@@ -148,3 +148,10 @@ join-join f m (suc n) =
     join-suc (λ v. join (λ c. f (v * m + c)) m) n
     ∙ ap (λ (x : List ℕ). x ++ join (λ c. f (n * m + c)) m) (join-join f m n)
     ∙ sym (ap (join f) (suc-mul n m) ∙ join-add f (n * m) m)
+
+-- piece j of a piece of m pieces is a piece of the whole
+pub at-at : (w m : ℕ) (X : List ℕ) (k j : ℕ) → j < m → at w (at (m * w) X k) j ≡ at w X (k * m + j)
+unfolding at
+at-at w m X k j h =
+    let e : k * (m * w) + j * w ≡ (k * m + j) * w = sym (add-mul (k * m) j w ∙ ap (λ (x : ℕ). x + j * w) (mul-assoc k m w)) in
+    part-part X (k * (m * w)) (m * w) (j * w) w (piece-end w m j h) ∙ ap (λ (x : ℕ). part X x w) e
