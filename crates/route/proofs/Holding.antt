@@ -43,6 +43,10 @@ if-filled : (a b : Bool) → T (not a || b) → T a → T b
 if-filled true b t u = t
 if-filled false b t u = absurd u
 
+-- a bound passed is not kept
+pub not-under : {x y : ℕ} → x ≤ y → y < x → ⊥
+not-under h g = omega arith
+
 -- a word that is not 0 lies within the list
 pub word-inside : (l : List ℕ) (n : ℕ) → (getD l n 0 ≡ 0 → ⊥) → n < length l
 word-inside l n h = lt-of-not-le (λ (g : length l ≤ n). h (List·getD-eq-default l 0 g))

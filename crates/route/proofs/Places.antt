@@ -8,6 +8,10 @@ use lib.ListN.{length, take, drop, length-drop, drop-of-length-le}
 use lib.Seq.{take-nil, take-all}
 use Rattle.words.specs.Pieces.{part, at}
 use Rattle.words.proofs.Pieces.{piece-part}
+use Rattle.request.specs.Request.{Req}
+use Rattle.request.specs.Shape.{cells}
+use Rattle.request.specs.Accepted.{Regular, Small, Fits}
+use Rattle.request.proofs.Answers.{cells-few}
 use Rattle.route.specs.Links.{Within}
 
 -- ---- nothing wraps
@@ -22,6 +26,24 @@ label-fits {n} {d} {cells} {i} {v} {c} s hv hc =
     let a : i * n ≤ 4032 = mul-le-mul {n₂ = 63} {m₂ = 64} (s .layers-few) (s .nodes-few) in
     let b : (i * n + v) * cells ≤ 4503603855228928 = mul-le-mul {n₂ = 4294971328} {m₂ = 1048576} (omega arith) (s .cells-few) in
     (a, b, omega arith)
+
+-- the layer before is within too
+pub within-before : {n d cells i : ℕ} → Within n d cells i → Within n d cells (i - 1)
+within-before s = record {
+  nodes-few = s .nodes-few;
+  criteria-few = s .criteria-few;
+  cells-few = s .cells-few;
+  layers-few = (let h = s .layers-few in omega arith);
+}
+
+-- and a layer of an accepted request is
+pub within-asked : (R : Req) → Regular R → Small R → Fits R → {n i : ℕ} → n ≡ cells R → i ≤ R .hops → Within (R .nodes) (R .criteria) n i
+within-asked R ok small fits e h = record {
+  nodes-few = small .nodes-few;
+  criteria-few = small .three;
+  cells-few = (let c = cells-few R ok fits in omega arith);
+  layers-few = (let k = small .hops-few in omega arith);
+}
 
 -- ---- a piece of a buffer that may end too soon
 
