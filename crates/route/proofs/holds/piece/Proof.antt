@@ -3,8 +3,8 @@ use Prim.Native.Nat.{ℕ, _+_, _-_, _*_, _≤_, _<_}
 use native.Mathlib.Omega.{arith}
 use Rattle.route.proofs.Places.{piece-fits, piece-none, piece-some, piece-all}
 use borrow.Author.Needs.{needs}
-use Rattle.route.proofs.piece.Statement.{statement}
-use Rattle.route.proofs.piece.Tie as tie
+use Rattle.route.proofs.holds.piece.Statement.{statement}
+use Rattle.route.proofs.holds.piece.Tie as tie
 
 mul-at : tie.Need-mul-at
 mul-at c = let f = piece-fits (c .pre .0) (c .pre .1) in omega arith
@@ -40,7 +40,8 @@ part-result-end-2 : tie.Need-part-result-end-2
 part-result-end-2 c = search needs
 
 returns-2 : tie.Need-returns-2
-returns-2 c = piece-some (c .before .before .before .args .s .now) (c .before .before .before .args .k) (c .before .before .before .args .w) (omega arith)
+returns-2 c =
+    piece-some (c .before .before .before .args .s .now) (c .before .before .before .args .k) (c .before .before .before .args .w) (omega arith)
 
 mul-result-3 : tie.Need-mul-result-3
 mul-result-3 c = search needs
