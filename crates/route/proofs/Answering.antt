@@ -5,8 +5,8 @@ use mathlib.Core.Bool.{Bool, true, false, cond, not, _||_}
 use mathlib.Core.List.{List, [], _∷_, _++_}
 use native.Mathlib.Omega.{arith}
 use lib.ListN.{length, getD}
-use lib.Dec.{T, leb, ltb, eqb, lt→ltb}
-use borrow.Author.Tests.{ne-eqb}
+use lib.Dec.{T, T-not, leb, ltb, eqb, lt→ltb}
+use borrow.Author.Tests.{eq-eqb, ne-eqb}
 use Rattle.words.specs.Pieces.{write}
 use Rattle.words.specs.Rows.{Row, Weighed, clear, refused, weigh, settle}
 use Rattle.words.proofs.Choices.{cond-cases, true-is, false-is, is-true}
@@ -74,6 +74,10 @@ module _ (R : Req) (W : List ℕ) (room i v c : ℕ) where
                 ∙ weigh-passed (record { number = 16; holds = false; place = 0 }) [] tt ∙ weigh-none
 
 -- ---- the answers
+
+-- a number that is not that of an empty cell
+pub other : {n : ℕ} → T (not (eqb n 15)) → n ≡ 15 → ⊥
+other {n} t e = T-not (eqb n 15) t (true-is (eq-eqb n 15 e))
 
 -- costs 0
 abbrev pub none : List ℕ
