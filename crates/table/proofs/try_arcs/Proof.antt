@@ -1,20 +1,15 @@
 -- `try_arcs`. The loop's invariant: the arcs before a are passed (`Along`). Assumes nothing.
-use mathlib.Core.Path.{_≡_, refl, sym, ap, _∙_}
-use Prim.Native.Nat.{ℕ, _+_, _-_, _*_, _/_, _≤_, _<_}
-use native.Mathlib.Nat.{mul-le-mul, div-le-self}
-use mathlib.Core.List.{List}
-use lib.ListN.{length, getD}
+use mathlib.Core.Path.{_≡_}
+use Prim.Native.Nat.{_+_, _-_, _/_, _≤_}
+use native.Mathlib.Nat.{mul-le-mul}
+use lib.ListN.{length}
 use Rattle.words.specs.Pieces.{part}
-use Rattle.request.specs.Request.{asked, width, arcCount, arc, tail, head}
+use Rattle.request.specs.Request.{asked, arcCount}
 use Rattle.request.specs.Shape.{cells}
 use Rattle.rounds.specs.Rounds.{span}
 use Rattle.rounds.proofs.Tries.{filledIn-le}
-use Rattle.tries.specs.declared.Frame.{Frame}
-use Rattle.tries.specs.Frame.{Framed}
-use Rattle.tries.proofs.Frames.{width-is, span-is}
 use Rattle.table.proofs.OneArc.{arc-count, here}
 use Rattle.table.proofs.Passing.{Along, none-yet, along-length, tries-few, arc-apart, one-arc, all-words, all-tries}
-use borrow.Author.Needs.{needs}
 use native.Mathlib.Omega.{arith}
 use Rattle.table.proofs.try_arcs.Statement.{statement}
 use Rattle.table.proofs.try_arcs.Tie as tie

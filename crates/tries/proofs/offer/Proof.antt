@@ -1,8 +1,6 @@
 -- `offer`: one cell's words are lent to `place`. Assumes nothing.
-use mathlib.Core.Path.{_≡_, refl, sym, ap, _∙_}
-use Prim.Native.Nat.{ℕ, _+_, _-_, _*_, _≤_, _<_}
-use mathlib.Core.List.{List}
-use lib.ListN.{length}
+use mathlib.Core.Path.{_≡_, ap, _∙_}
+use Prim.Native.Nat.{ℕ, _+_, _-_, _*_}
 use Rattle.words.proofs.Writes.{length-part}
 use Rattle.tries.proofs.Offering.{offer-law}
 use borrow.Author.Needs.{needs}
