@@ -1,18 +1,17 @@
 -- What a reader may take from a read-back's answer: a route is a walk with exactly the answered costs, on any label buffer; on the table of the
 -- build every filled label answers its route; each refusal, and the empty cell, is answered exactly when its row decides. Assumes nothing.
-use Prim.Native.Nat.{ℕ, zero, suc, _+_, _*_, _≤_, _<_}
+use Prim.Native.Nat.{ℕ, _+_, _*_, _≤_, _<_}
 use mathlib.Core.Path.{_≡_, refl, sym, ap, _∙_, subst}
 use mathlib.Core.Bool.{Bool, true, false, cond, not, _||_}
-use mathlib.Core.List.{List, [], _∷_, _++_}
-use native.Mathlib.Nat.{le-trans, le-of-eq, mul-assoc}
+use mathlib.Core.List.{List}
+use native.Mathlib.Nat.{mul-assoc}
 use native.Mathlib.Decide.{ℕ-discrete}
 use native.Mathlib.Omega.{arith}
-use lib.ListN.{length, getD, take, length-take}
+use lib.ListN.{length, length-take}
 use lib.Dec.{T, leb, ltb, eqb, ltb→lt, nltb→le}
-use borrow.Author.Tests.{eqb-true, ne-eqb}
+use borrow.Author.Tests.{eqb-true}
 use Rattle.words.specs.Pieces.{write}
-use Rattle.words.specs.Rows.{Row, Weighed, clear, refused, weigh, row, Decides, settle}
-use Rattle.words.proofs.Choices.{true-is}
+use Rattle.words.specs.Rows.{Weighed, clear, refused, weigh, row, Decides, settle}
 use Rattle.words.proofs.Rows.{weigh-clear-front, weigh-clear-back, clear-cons, refused-decides, decides-refused}
 use Rattle.request.specs.Request.{Req, width, reach}
 use Rattle.request.specs.Shape.{cells, labelCount}
@@ -22,16 +21,14 @@ use Rattle.request.specs.declared.Refusal.{Refusal}
 use Rattle.request.proofs.Accepted.{accepted-regular}
 use Rattle.request.proofs.Tests.{or-neither, nor-left, lt-fails, le-fails}
 use Rattle.rounds.specs.Label.{costs, step, filled}
-use Rattle.rounds.specs.Rounds.{span, table, labelAt}
-use Rattle.cover.specs.Walk.{Walk, sums}
+use Rattle.rounds.specs.Rounds.{table, labelAt}
 use Rattle.cover.specs.Cover.{route}
 use Rattle.route.specs.Chain.{labelIn, Chain, whole, broken, chain}
-use Rattle.route.specs.Answer.{breaks, breakLayer, arcsOf, backRows, refusal, ended, endingOf, costsAfter, routeAfter}
+use Rattle.route.specs.Answer.{breaks, arcsOf, backRows, refusal, ended, endingOf, costsAfter, routeAfter}
 use Rattle.route.specs.Walked.{Walked, Sound, RouteRead, Fronts}
-use Rattle.route.specs.declared.Ending.{Ending}
 use Rattle.route.specs.declared.Ending.the-variants as ending
 use Rattle.route.proofs.Sound.{chain-sound}
-use Rattle.route.proofs.Answering.{empty-cell, chain-broken, chain-whole, three, none, empty-all, route-all}
+use Rattle.route.proofs.Answering.{empty-cell, chain-broken, chain-whole, three, none, route-all}
 use Rattle.route.proofs.Tables.{table-long, label-in, table-whole}
 
 -- ---- an ending tells how the rows were weighed

@@ -1,18 +1,16 @@
 -- `leads`: the first of the three tests that holds; c7 is what was known seven steps before. Assumes nothing.
-use Prim.Native.Nat.{ℕ, _+_, _-_, _*_, _≤_, _<_}
-use mathlib.Core.Path.{_≡_, sym, ap, _∙_}
+use Prim.Native.Nat.{ℕ, _-_}
+use mathlib.Core.Path.{ap, _∙_}
 use mathlib.Core.List.{List}
-use native.Mathlib.Omega.{arith}
-use lib.ListN.{length, getD, take, drop}
-use Rattle.request.specs.Request.{asked, arcCount, arc, tail, head, arcCosts}
-use Rattle.rounds.specs.Label.{costs, step, from, sum}
+use lib.ListN.{getD}
+use Rattle.request.specs.Request.{asked, arc, tail}
+use Rattle.rounds.specs.Label.{step, from}
 use Rattle.route.specs.Chain.{startHolds, keptHolds}
 use Rattle.route.proofs.Places.{within-before}
 use Rattle.route.proofs.Leading.{label-is, told, told-not, told-two, told-two-not, lead-ends, lead-none, lead-kept, lead-low, lead-came, lead-missed}
 use borrow.Author.Needs.{needs}
 use Rattle.route.proofs.leads.Statement.{statement}
 use Rattle.route.proofs.leads.Tie as tie
-use Rattle.words.proofs.word.Reads as word-reads
 
 cast-d : tie.Need-cast-d
 cast-d c = search needs

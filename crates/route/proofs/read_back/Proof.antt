@@ -1,9 +1,8 @@
 -- `read_back`: a refusal of the check, or the read-back of the shape. Assumes nothing.
-use Prim.Native.Nat.{ℕ, _+_, _-_, _*_, _≤_, _<_}
-use mathlib.Core.Path.{_≡_, refl, sym, ap, _∙_}
-use mathlib.Core.List.{List, [], _∷_}
+use Prim.Native.Nat.{_-_}
+use mathlib.Core.Path.{sym, _∙_}
 use native.Mathlib.Omega.{arith}
-use lib.ListN.{length, getD, take}
+use lib.ListN.{length}
 use Rattle.request.specs.Request.{asked}
 use Rattle.request.proofs.Answers.{refused-is, shaped-is}
 use Rattle.route.proofs.Numbers.{early-number}
@@ -11,7 +10,6 @@ use Rattle.route.proofs.Answering.{refused-early, refused-all}
 use borrow.Author.Needs.{needs}
 use Rattle.route.proofs.read_back.Statement.{statement}
 use Rattle.route.proofs.read_back.Tie as tie
-use Rattle.request.proofs.check.Reads as check-reads
 
 check-requires : tie.Need-check-requires
 check-requires c κs = search needs

@@ -1,9 +1,8 @@
 -- `read_shaped`: rows 13 to 16 one after another, and then the route; c7 is what was known seven steps before. Assumes nothing.
-use Prim.Native.Nat.{ℕ, _+_, _-_, _*_, _≤_, _<_}
-use mathlib.Core.Path.{_≡_, refl, sym, ap, _∙_}
-use mathlib.Core.List.{List, [], _∷_}
+use Prim.Native.Nat.{_-_}
+use mathlib.Core.Path.{sym, _∙_}
 use native.Mathlib.Omega.{arith}
-use lib.ListN.{length, getD, take}
+use lib.ListN.{length}
 use Rattle.request.specs.Request.{asked, reach}
 use Rattle.request.proofs.Accepted.{accepted-regular, accepted-small, accepted-fits}
 use Rattle.rounds.specs.Label.{costs, step}
@@ -13,7 +12,6 @@ use Rattle.route.proofs.Reading.{was-broken, was-whole, broken-leaves, 
 use borrow.Author.Needs.{needs}
 use Rattle.route.proofs.read_shaped.Statement.{statement}
 use Rattle.route.proofs.read_shaped.Tie as tie
-use Rattle.words.proofs.word.Reads as word-reads
 
 cast-d : tie.Need-cast-d
 cast-d c = search needs

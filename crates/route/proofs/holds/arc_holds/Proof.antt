@@ -1,19 +1,17 @@
 -- `arc_holds`: one test after another, and the costs last. Assumes nothing.
-use Prim.Native.Nat.{ℕ, _+_, _-_, _*_, _≤_, _<_}
-use mathlib.Core.Path.{_≡_, sym, ap, _∙_}
+use Prim.Native.Nat.{ℕ, _-_, _<_}
+use mathlib.Core.Path.{sym, ap, _∙_}
 use mathlib.Core.List.{List}
 use native.Mathlib.Omega.{arith}
 use lib.ListN.{length, getD, take, drop}
-use Rattle.request.specs.Request.{asked, arcCount, arc, tail, head, arcCosts}
+use Rattle.request.specs.Request.{asked, arcCount, arc, head, arcCosts}
 use Rattle.rounds.specs.Label.{costs, step, from, sum}
-use Rattle.words.specs.Pieces.{at}
 use Rattle.request.proofs.Tops.{arc-words}
 use Rattle.route.specs.Chain.{same}
-use Rattle.route.proofs.Holding.{not-held, not-under, word-inside, Comes, arc-facts, arc-rest, agree-empty, agree-filled}
+use Rattle.route.proofs.Holding.{not-held, not-under, word-inside, arc-facts, arc-rest, agree-empty, agree-filled}
 use borrow.Author.Needs.{needs}
 use Rattle.route.proofs.holds.arc_holds.Statement.{statement}
 use Rattle.route.proofs.holds.arc_holds.Tie as tie
-use Rattle.words.proofs.word.Reads as word-reads
 
 cast-d : tie.Need-cast-d
 cast-d c = search needs

@@ -2,7 +2,7 @@
 use Prim.Native.Nat.{ℕ, _+_, _-_, _≤_, _<_}
 use mathlib.Core.Path.{_≡_}
 use native.Mathlib.Omega.{arith}
-use lib.ListN.{length, getD}
+use lib.ListN.{getD}
 use Rattle.route.proofs.Comparing.{sum-yes, sum-no, next-word}
 use borrow.Author.Needs.{needs}
 use Rattle.route.proofs.holds.costs_add_up.Statement.{statement}

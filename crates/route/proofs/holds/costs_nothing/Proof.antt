@@ -1,8 +1,8 @@
 -- `costs_nothing`: the costs so far are 0. Assumes nothing.
-use Prim.Native.Nat.{ℕ, _+_, _-_, _≤_, _<_}
+use Prim.Native.Nat.{ℕ, _-_, _≤_, _<_}
 use mathlib.Core.Path.{_≡_}
 use native.Mathlib.Omega.{arith}
-use lib.ListN.{length, getD}
+use lib.ListN.{getD}
 use Rattle.route.proofs.Comparing.{nothing-yes, nothing-no, next-word}
 use borrow.Author.Needs.{needs}
 use Rattle.route.proofs.holds.costs_nothing.Statement.{statement}

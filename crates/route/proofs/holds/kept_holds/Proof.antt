@@ -1,15 +1,14 @@
 -- `kept_holds`: one test after another, and the costs last. Assumes nothing.
-use Prim.Native.Nat.{ℕ, _+_, _-_, _*_, _≤_, _<_}
-use mathlib.Core.Path.{_≡_, sym, _∙_}
+use Prim.Native.Nat.{_-_, _<_}
+use mathlib.Core.Path.{sym, _∙_}
 use lib.ListN.{length}
 use native.Mathlib.Omega.{arith}
 use Rattle.request.specs.Request.{asked}
 use Rattle.rounds.specs.Label.{costs, step, from}
-use Rattle.route.proofs.Holding.{not-held, word-inside, Keeps, kept-facts, kept-rest, agree-empty, agree-filled}
+use Rattle.route.proofs.Holding.{not-held, word-inside, kept-facts, kept-rest, agree-empty, agree-filled}
 use borrow.Author.Needs.{needs}
 use Rattle.route.proofs.holds.kept_holds.Statement.{statement}
 use Rattle.route.proofs.holds.kept_holds.Tie as tie
-use Rattle.words.proofs.word.Reads as word-reads
 
 cast-d : tie.Need-cast-d
 cast-d c = search needs

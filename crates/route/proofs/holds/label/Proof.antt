@@ -1,5 +1,5 @@
 -- `label`: its place does not wrap. Assumes nothing.
-use Prim.Native.Nat.{ℕ, _+_, _-_, _*_, _≤_, _<_}
+use Prim.Native.Nat.{_-_}
 use native.Mathlib.Omega.{arith}
 use Rattle.route.proofs.Places.{label-fits}
 use borrow.Author.Needs.{needs}

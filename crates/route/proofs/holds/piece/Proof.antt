@@ -1,5 +1,5 @@
 -- `piece`: what the buffer has of it. Assumes nothing.
-use Prim.Native.Nat.{ℕ, _+_, _-_, _*_, _≤_, _<_}
+use Prim.Native.Nat.{_-_}
 use native.Mathlib.Omega.{arith}
 use Rattle.route.proofs.Places.{piece-fits, piece-none, piece-some, piece-all}
 use borrow.Author.Needs.{needs}

@@ -1,8 +1,8 @@
 -- `same_costs`: the costs so far are the same. Assumes nothing.
-use Prim.Native.Nat.{ℕ, _+_, _-_, _≤_, _<_}
+use Prim.Native.Nat.{ℕ, _-_, _≤_, _<_}
 use mathlib.Core.Path.{_≡_}
 use native.Mathlib.Omega.{arith}
-use lib.ListN.{length, getD}
+use lib.ListN.{getD}
 use Rattle.route.proofs.Comparing.{alike-yes, alike-no, next-word}
 use borrow.Author.Needs.{needs}
 use Rattle.route.proofs.holds.same_costs.Statement.{statement}
