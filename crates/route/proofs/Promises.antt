@@ -11,8 +11,8 @@ use lib.ListN.{length, length-take}
 use lib.Dec.{T, leb, ltb, eqb, ltb→lt, nltb→le}
 use borrow.Author.Tests.{eqb-true}
 use Rattle.words.specs.Pieces.{write}
-use Rattle.words.specs.Rows.{Weighed, clear, refused, weigh, row, Decides, settle}
-use Rattle.words.proofs.Rows.{weigh-clear-front, weigh-clear-back, clear-cons, refused-decides, decides-refused}
+use Rattle.words.specs.Rows.{Weighed, clear, refused, weigh, row, Decides, NoneHolds, settle}
+use Rattle.words.proofs.Rows.{weigh-clear-front, weigh-clear-back, clear-cons, refused-decides, decides-refused, none-clear, clear-none}
 use Rattle.request.specs.Request.{Req, width, reach}
 use Rattle.request.specs.Shape.{cells, labelCount}
 use Rattle.request.specs.Rows.{rows}
@@ -101,6 +101,14 @@ module _ (R : Req) (W : List ℕ) (room i v c : ℕ) where
       }
 
   -- ---- EXACTLY THE LISTED ANSWERS, by the law of rows
+
+  -- a route where no row holds, and nowhere else
+  pub none-route : NoneHolds (backRows R W room i v c) → endingOf R W room i v c ≡ ending.Route (length (arcsOf (chain R W i v c)))
+  unfolding endingOf
+  none-route h = ap (λ (w : Weighed). ended w (length arcs)) (none-clear (backRows R W room i v c) h)
+
+  pub route-none : (n : ℕ) → endingOf R W room i v c ≡ ending.Route n → NoneHolds (backRows R W room i v c)
+  route-none n e = clear-none (backRows R W room i v c) (route-clear n e .0)
 
   -- a row that decides is answered
   pub decides-ending : (k : ℕ) → Decides (backRows R W room i v c) k → endingOf R W room i v c ≡ refusal (row (backRows R W room i v c) k .number) (row (backRows R W room i v c) k .place)
@@ -214,3 +222,9 @@ module _ (R : Req) (ok : Accepted R) (W buffer : List ℕ) (front : Fronts R W) 
       route-all R W buffer i v c (chain-whole R W (length buffer) i v c ok long-enough roomy inside filled-in (route R i v c) e)
       (length (route R i v c)) (ap length (sym s)) (three (costs R (labelAt R i v c))) (write buffer 0 (route R i v c))
       (ap (λ (l : List ℕ). three (costs R l)) (sym (label-in R regular W front i v c hi hv hc))) (ap (write buffer 0) (sym s))
+
+  -- and that route is a walk to the label's node, with exactly its costs and at most i arcs
+  pub table-walks : RouteRead R W buffer i v c (length (route R i v c)) (route R i v c)
+  table-walks =
+      subst (RouteRead R W buffer i v c (length (route R i v c))) (ap arcsOf (table-whole R regular W front i v c hi hv hc full))
+      (route-walks R W buffer i v c (length (route R i v c)) (sym (table-route .0)))

@@ -14,7 +14,7 @@ ghost use Rattle.route.specs.Chain.{same, startHolds, keptHolds, arcHold
 ghost use Rattle.route.specs.Links.{Within};
 
 // Piece k of w words, as much of it as there is.
-pub fn piece(s: &[u32], k: usize, w: usize) -> &[u32]
+pub(crate) fn piece(s: &[u32], k: usize, w: usize) -> &[u32]
     requires { ⌜ (k ≤ 9007199254740992) × (w ≤ 5) ⌝ }
     ensures { λ r. ⌜ now r ≡ at w (now (s .entry)) k ⌝ }
 {
@@ -31,7 +31,7 @@ pub fn piece(s: &[u32], k: usize, w: usize) -> &[u32]
 }
 
 // The words of the label of layer i, node v, cell c, as many of them as there are.
-pub fn label(labels: &[u32], q: Request, cells: u32, i: u32, v: u32, c: u32) -> &[u32]
+pub(crate) fn label(labels: &[u32], q: Request, cells: u32, i: u32, v: u32, c: u32) -> &[u32]
     requires { ⌜ Within (q .nodes) (q .criteria) cells i ⌝ }
     ensures { λ r. ⌜ now r ≡ at (q .criteria + 2) (now (labels .entry)) ((i * q .nodes + v) * cells + c) ⌝ }
 {
@@ -87,7 +87,7 @@ fn costs_add_up(l: &[u32], reached: &[u32], arc: &[u32], d: usize) -> bool
 }
 
 // Whether a label is a start and holds.
-pub fn start_holds(q: Request, l: &[u32], i: u32, v: u32, c: u32) -> bool
+pub(crate) fn start_holds(q: Request, l: &[u32], i: u32, v: u32, c: u32) -> bool
     requires { ⌜ q .criteria ≤ 3 ⌝ }
     ensures { λ r. ⌜ ((arcs : List ℕ) → r ≡ startHolds (asked q arcs) i (now (l .entry)) v c) ⌝ }
 {
@@ -111,7 +111,7 @@ pub fn start_holds(q: Request, l: &[u32], i: u32, v: u32, c: u32) -> bool
 }
 
 // Whether a label is a kept one and holds, where `reached` is the label of its cell in the layer before.
-pub fn kept_holds(q: Request, l: &[u32], i: u32, reached: &[u32]) -> bool
+pub(crate) fn kept_holds(q: Request, l: &[u32], i: u32, reached: &[u32]) -> bool
     requires { ⌜ q .criteria ≤ 3 ⌝ }
     ensures { λ r. ⌜ ((arcs : List ℕ) → r ≡ keptHolds (asked q arcs) i (now (l .entry)) (now (reached .entry))) ⌝ }
 {
@@ -132,7 +132,7 @@ pub fn kept_holds(q: Request, l: &[u32], i: u32, reached: &[u32]) -> bool
 }
 
 // Whether a label came by arc a and holds, where `reached` is the label of its cell in the layer before.
-pub fn arc_holds(
+pub(crate) fn arc_holds(
     q: Request,
     arcs: &[u32],
     cells: u32,
