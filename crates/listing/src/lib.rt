@@ -2,13 +2,13 @@
 use request::Refusal;
 use request::Request;
 use route::Trail;
+use route::follow;
 ghost use mathlib.Core.Path.{_≡_};
 ghost use Prim.Native.Nat.{ℕ, _+_, _*_, _≤_, _<_};
 ghost use lib.ListN.{length};
 ghost use Rattle.words.specs.Loops.{total};
 ghost use Rattle.words.specs.Pieces.{write};
 ghost use Rattle.request.specs.Request.{asked, width};
-ghost use Rattle.request.specs.Shape as shape;
 ghost use Rattle.rounds.specs.Label.{filled};
 ghost use Rattle.listing.specs.Listing.{lastLabel, filledAt, filledOf, filledLast, labelNumbers, labelLine, nodeLines, labelLines, listingText, refusalLine};
 ghost use Rattle.listing.specs.Print.{countOf, printedOf, bytesAfter, Tabled};
@@ -211,30 +211,4 @@ pub fn print_refusal(refusal: Refusal, out: &mut [u8]) -> Printed
     }
     text::put_line(out, 0, b"refused", TAB, &numbers);
     Printed::Bytes(n as u32)
-}
-
-// STUB
-ghost use Rattle.request.specs.Request.{reach};
-ghost use Rattle.request.specs.Accepted.{Regular, Small, Fits};
-ghost use Rattle.route.specs.Links.{trailOf};
-ghost use Rattle.route.specs.Chain.{chain};
-ghost use Rattle.route.specs.Answer.{arcsOf};
-fn follow(
-    labels: &[u32],
-    arcs: &[u32],
-    request: Request,
-    cells: u32,
-    layer: u32,
-    node: u32,
-    cell: u32,
-    route: &mut [u32],
-) -> Trail
-    requires { ⌜ Regular (asked request (now arcs)) ⌝ }
-    requires { ⌜ Small (asked request (now arcs)) ⌝ }
-    requires { ⌜ Fits (asked request (now arcs)) ⌝ }
-    requires { ⌜ (cells ≡ shape.cells (asked request (now arcs))) × (layer ≤ request .hops) × (reach (asked request (now arcs)) ≤ length (now route)) ⌝ }
-    ensures { λ r. ⌜ r ≡ trailOf (chain (asked request (now (arcs .entry))) (now (labels .entry)) layer node cell) ⌝ }
-    ensures { λ _. ⌜ now (route .exit) ≡ write (now (route .entry)) 0 (arcsOf (chain (asked request (now (arcs .entry))) (now (labels .entry)) layer node cell)) ⌝ }
-{
-    Trail::Broke(0)
 }

@@ -19,6 +19,7 @@ use Rattle.rounds.specs.Label.{costs, filled}
 use Rattle.rounds.specs.Rounds.{span, block, keepAll, arcStep, round, roundTries, startLayer, layer, table, tries, labelOf, labelAt}
 use Rattle.rounds.proofs.Round.{keepAll-length, round-length, layer-length}
 use Rattle.rounds.proofs.Start.{startLayer-length}
+use Rattle.rounds.proofs.Table.{table-length}
 use Rattle.rounds.proofs.Costs.{layer-costs, room-for-arc}
 use Rattle.tries.specs.Frame.{Room}
 use Rattle.table.specs.Build.{Layered}
@@ -66,10 +67,6 @@ module _ (R : Req) where
     pub words : ls ≡ write xs 0 (join (layer R) (i + 1))
     pub count : tried ≡ tries R i
 
-  pub table-length : Regular R → length (table R) ≡ (R .hops + 1) * layerWords R
-  unfolding table
-  table-length ok = join-length (layerWords R) (layer R) (R .hops + 1) (λ i _. layer-length R ok i)
-
   layers-length : Regular R → (n : ℕ) → length (join (layer R) n) ≡ n * layerWords R
   layers-length ok n = join-length (layerWords R) (layer R) n (λ i _. layer-length R ok i)
 
@@ -95,7 +92,7 @@ module _ (R : Req) where
       -- the layers so far, and the next, lie within the buffer
       pub ends : base + layerWords R + layerWords R ≤ length xs
       ends =
-          let t = table-length ok in
+          let t = table-length R ok in
           let b = g .begins in
           let m : (i + 1 + 1) * layerWords R ≤ (R .hops + 1) * layerWords R = mul-le-mul-right (layerWords R) (omega arith) in
           let x = add-mul (i + 1) 1 (layerWords R) in
@@ -171,7 +168,7 @@ module _ (R : Req) where
   module _ (ok : Regular R) (xs ls : List ℕ) (e : ls ≡ write xs 0 (startLayer R)) (room : length (table R) ≤ length xs) where
     one-layer : layerWords R ≤ length (table R)
     one-layer =
-        let t = table-length ok in
+        let t = table-length R ok in
         let m : 1 * layerWords R ≤ (R .hops + 1) * layerWords R = mul-le-mul-right (layerWords R) (omega arith) in
         let o = one-mul (layerWords R) in
         omega arith
