@@ -7,3 +7,5 @@ pub mod Prints
 pub mod Rooms
 pub mod Requests
 pub mod FromSheets
+pub mod Lengths
+pub mod Suffices
