@@ -1,8 +1,11 @@
-// The listing of a built table: its length is known before its first byte is written.
+// The listing of a built table: its length is known before its first byte is written. And the listing of a sheet.
+mod sheets;
+
 use request::Refusal;
 use request::Request;
 use route::Trail;
 use route::follow;
+pub use sheets::list;
 ghost use mathlib.Core.Path.{_≡_};
 ghost use Prim.Native.Nat.{ℕ, _+_, _*_, _≤_, _<_};
 ghost use lib.ListN.{length};
@@ -19,6 +22,12 @@ const TAB: u8 = 9;
 pub enum Printed {
     Bytes(u32),
     Longer,
+}
+
+// A sheet's listing has so many bytes; or a refusal.
+pub enum Listed {
+    Bytes(u32),
+    Refused(Refusal),
 }
 
 // How many labels are filled, and how many bytes their lines take.
@@ -38,7 +47,14 @@ fn label_at(request: Request, cells: u32, node: u32, cell: u32) -> usize
 }
 
 // Whether the label of layer K, of this node and cell, is filled.
-fn is_filled(labels: &[u32], arcs: &[u32], request: Request, cells: u32, node: u32, cell: u32) -> bool
+fn is_filled(
+    labels: &[u32],
+    arcs: &[u32],
+    request: Request,
+    cells: u32,
+    node: u32,
+    cell: u32,
+) -> bool
     requires { ⌜ Tabled (asked request (now arcs)) (now labels) cells ⌝ }
     requires { ⌜ (node < request .nodes) × (cell < cells) ⌝ }
     ensures { λ r. ⌜ r ≡ filled (asked request (now (arcs .entry))) (lastLabel (asked request (now (arcs .entry))) (now (labels .entry)) node cell) ⌝ }
@@ -58,7 +74,15 @@ fn arc_count(trail: Trail) -> u32
 }
 
 // The numbers of a label's line, at the front of the lent words: node, costs, arc count, arc numbers.
-fn label_numbers(labels: &[u32], arcs: &[u32], request: Request, cells: u32, node: u32, cell: u32, numbers: &mut [u32]) -> usize
+fn label_numbers(
+    labels: &[u32],
+    arcs: &[u32],
+    request: Request,
+    cells: u32,
+    node: u32,
+    cell: u32,
+    numbers: &mut [u32],
+) -> usize
     requires { ⌜ Tabled (asked request (now arcs)) (now labels) cells ⌝ }
     requires { ⌜ (node < request .nodes) × (cell < cells) × (length (now numbers) ≡ 68) ⌝ }
     ensures { λ r. ⌜ r ≡ length (labelNumbers (asked request (now (arcs .entry))) (now (labels .entry)) node cell) ⌝ }
@@ -72,13 +96,29 @@ fn label_numbers(labels: &[u32], arcs: &[u32], request: Request, cells: u32, nod
     numbers[0] = node;
     words::copy(&mut numbers[1..count], &labels[at..end]);
     let k = request.hops;
-    let n = arc_count(follow(labels, arcs, request, cells, k, node, cell, &mut numbers[first..68]));
+    let n = arc_count(follow(
+        labels,
+        arcs,
+        request,
+        cells,
+        k,
+        node,
+        cell,
+        &mut numbers[first..68],
+    ));
     numbers[count] = n;
     first + n as usize
 }
 
 // The line of a label: how many bytes it takes, none where the label is empty.
-fn measure_label(labels: &[u32], arcs: &[u32], request: Request, cells: u32, node: u32, cell: u32) -> Measure
+fn measure_label(
+    labels: &[u32],
+    arcs: &[u32],
+    request: Request,
+    cells: u32,
+    node: u32,
+    cell: u32,
+) -> Measure
     requires { ⌜ Tabled (asked request (now arcs)) (now labels) cells ⌝ }
     requires { ⌜ (node < request .nodes) × (cell < cells) ⌝ }
     ensures { λ r. ⌜ (r .filled ≡ filledAt (asked request (now (arcs .entry))) (now (labels .entry)) node cell) × (r .filled ≤ 1) ⌝ }
@@ -136,7 +176,16 @@ fn measure_lines(labels: &[u32], arcs: &[u32], request: Request, cells: u32) -> 
 }
 
 // Writes the line of a label from byte `at` on, where the label is filled; the byte after it.
-fn put_label(labels: &[u32], arcs: &[u32], request: Request, cells: u32, node: u32, cell: u32, listing: &mut [u8], at: usize) -> usize
+fn put_label(
+    labels: &[u32],
+    arcs: &[u32],
+    request: Request,
+    cells: u32,
+    node: u32,
+    cell: u32,
+    listing: &mut [u8],
+    at: usize,
+) -> usize
     requires { ⌜ Tabled (asked request (now arcs)) (now labels) cells ⌝ }
     requires { ⌜ (node < request .nodes) × (cell < cells) ⌝ }
     requires { ⌜ at + length (labelLine (asked request (now arcs)) (now labels) node cell) ≤ length (now listing) ⌝ }
@@ -152,7 +201,15 @@ fn put_label(labels: &[u32], arcs: &[u32], request: Request, cells: u32, node: u
 }
 
 // Writes the lines of a node from byte `at` on, cells rising; the byte after them.
-fn put_node(labels: &[u32], arcs: &[u32], request: Request, cells: u32, node: u32, listing: &mut [u8], at: usize) -> usize
+fn put_node(
+    labels: &[u32],
+    arcs: &[u32],
+    request: Request,
+    cells: u32,
+    node: u32,
+    listing: &mut [u8],
+    at: usize,
+) -> usize
     requires { ⌜ Tabled (asked request (now arcs)) (now labels) cells ⌝ }
     requires { ⌜ node < request .nodes ⌝ }
     requires { ⌜ at + length (nodeLines (asked request (now arcs)) (now labels) node) ≤ length (now listing) ⌝ }
@@ -169,7 +226,14 @@ fn put_node(labels: &[u32], arcs: &[u32], request: Request, cells: u32, node: u3
 }
 
 // Writes the lines of all nodes from byte `at` on, nodes rising.
-fn put_labels(labels: &[u32], arcs: &[u32], request: Request, cells: u32, listing: &mut [u8], at: usize)
+fn put_labels(
+    labels: &[u32],
+    arcs: &[u32],
+    request: Request,
+    cells: u32,
+    listing: &mut [u8],
+    at: usize,
+)
     requires { ⌜ Tabled (asked request (now arcs)) (now labels) cells ⌝ }
     requires { ⌜ at + length (labelLines (asked request (now arcs)) (now labels)) ≤ length (now listing) ⌝ }
     ensures { λ _. ⌜ now (listing .exit) ≡ write (now (listing .entry)) at (labelLines (asked request (now (arcs .entry))) (now (labels .entry))) ⌝ }
@@ -183,7 +247,14 @@ fn put_labels(labels: &[u32], arcs: &[u32], request: Request, cells: u32, listin
 }
 
 // Prints the listing of a built table at the front of the lent bytes, or says that it is longer than they are.
-pub fn print(labels: &[u32], arcs: &[u32], request: Request, cells: u32, tries: u32, listing: &mut [u8]) -> Printed
+pub fn print(
+    labels: &[u32],
+    arcs: &[u32],
+    request: Request,
+    cells: u32,
+    tries: u32,
+    listing: &mut [u8],
+) -> Printed
     requires { ⌜ Tabled (asked request (now arcs)) (now labels) cells ⌝ }
     ensures { λ r. ⌜ r ≡ printedOf (listingText (asked request (now (arcs .entry))) (now (labels .entry)) tries) (length (now (listing .entry))) ⌝ }
     ensures { λ _. ⌜ now (listing .exit) ≡ bytesAfter (listingText (asked request (now (arcs .entry))) (now (labels .entry)) tries) (now (listing .entry)) ⌝ }

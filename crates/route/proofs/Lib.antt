@@ -4,3 +4,9 @@ pub mod Holding
 pub mod Leading
 pub mod Sound
 pub mod Following
+pub mod Numbers
+pub mod Answering
+pub mod Reading
+pub mod Told
+pub mod Tables
+pub mod Promises

@@ -51,13 +51,14 @@ module _ (R : Req) (W : List ℕ) where
         let s = p .step-is in
         let g = h .1 .short in
         let b = p .before in
-        let n = length-snoc ws a in
-        (filled-step l (omega arith),
-        record {
-          walk = subst (λ (z : ℕ). Walk R (R .source) (ws ++ a ∷ []) z) (p .head-is) (walk-snoc R (R .source) ws a (p .arc-in) (h .1 .walk));
-          short = omega arith;
-          exact = p .agree (h .0) ∙ ap (λ (z : List ℕ). sum z (arcCosts R a)) (h .1 .exact) ∙ sym (sums-snoc R (replicate (R .criteria) 0) ws a);
-        })
+        let n = length-snoc ws a in (
+          filled-step l (omega arith),
+          record {
+            walk = subst (λ (z : ℕ). Walk R (R .source) (ws ++ a ∷ []) z) (p .head-is) (walk-snoc R (R .source) ws a (p .arc-in) (h .1 .walk));
+            short = omega arith;
+            exact = p .agree (h .0) ∙ ap (λ (z : List ℕ). sum z (arcCosts R a)) (h .1 .exact) ∙ sym (sums-snoc R (replicate (R .criteria) 0) ws a);
+          },
+        )
 
   -- By induction on the labels that may still be looked at: the first test that holds says which of the three labels it is, and the chain of
   -- the label reached is a walk already.

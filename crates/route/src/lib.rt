@@ -1,19 +1,25 @@
 // Reading a route back from a label buffer that is not trusted.
+use request::Checked;
 use request::Refusal;
 use request::Request;
+use request::Shape;
+use request::check;
 use words::word;
 ghost use mathlib.Core.Path.{_≡_};
-ghost use mathlib.Core.List.{List};
+ghost use mathlib.Core.Bool.{_||_};
+ghost use mathlib.Core.List.{List, [], _∷_};
 ghost use Prim.Native.Nat.{ℕ, _+_, _-_, _*_, _≤_, _<_};
-ghost use lib.ListN.{length, take, drop, replicate};
+ghost use lib.ListN.{length, getD, take, drop, replicate};
+ghost use lib.Dec.{leb, ltb};
 ghost use Rattle.words.specs.Pieces.{at, write};
-ghost use Rattle.request.specs.Request.{asked, arc, reach};
+ghost use Rattle.request.specs.Request.{asked, reach};
 ghost use Rattle.request.specs.Shape as shape;
-ghost use Rattle.request.specs.Accepted.{Regular, Small, Fits};
+ghost use Rattle.request.specs.Accepted.{Accepted, Regular, Small, Fits};
+ghost use Rattle.request.specs.Answer.{shapeOf};
 ghost use Rattle.rounds.specs.Label.{sum};
 ghost use Rattle.route.specs.Chain.{labelIn, same, startHolds, keptHolds, arcHolds, chain};
 ghost use Rattle.route.specs.Links.{Within, linkOf, trailOf};
-ghost use Rattle.route.specs.Answer.{arcsOf};
+ghost use Rattle.route.specs.Answer.{arcsOf, endingOf, costsAfter, routeAfter};
 
 // How a read-back ends: a route with its arc count, an empty cell, a refusal.
 pub enum Ending {
@@ -263,6 +269,113 @@ pub fn follow(
                     Trail::Whole(k + 1)
                 }
             }
+        }
+    }
+}
+
+// A read-back without a route: how it ends, and costs 0.
+fn no_route(ending: Ending) -> Back
+    ensures { λ r. ⌜ (r .ending ≡ ending) × (r .costs ≡ 0 ∷ 0 ∷ 0 ∷ []) ⌝ }
+{
+    Back {
+        ending,
+        costs: [0; 3],
+    }
+}
+
+// A read-back that is refused.
+fn refuse(number: u32, place: u32) -> Back
+    ensures { λ r. ⌜ (r .ending ≡ Ending.Refused (record { number = number; place = place })) × (r .costs ≡ 0 ∷ 0 ∷ 0 ∷ []) ⌝ }
+{
+    no_route(Ending::Refused(Refusal { number, place }))
+}
+
+// Cost j of a label with d criteria, 0 past its last.
+fn cost(l: &[u32], d: usize, j: usize) -> u32
+    ensures { λ r. ⌜ r ≡ getD (take d (now (l .entry))) j 0 ⌝ }
+{
+    if j < d {
+        return word(l, j);
+    }
+    0
+}
+
+// Whether there is no such layer, node or cell.
+fn beyond(q: Request, cells: u32, layer: u32, node: u32, cell: u32) -> bool
+    ensures { λ r. ⌜ r ≡ ltb (q .hops) layer || leb (q .nodes) node || leb cells cell ⌝ }
+{
+    if q.hops < layer {
+        return true;
+    }
+    if q.nodes <= node {
+        return true;
+    }
+    cells <= cell
+}
+
+// The read-back of an accepted request: rows 13 to 16, and then the route.
+fn read_shaped(
+    request: Request,
+    arcs: &[u32],
+    labels: &[u32],
+    shape: Shape,
+    layer: u32,
+    node: u32,
+    cell: u32,
+    route: &mut [u32],
+) -> Back
+    requires { ⌜ (Accepted (asked request (now arcs))) × (shape ≡ shapeOf (asked request (now arcs))) ⌝ }
+    ensures { λ r. ⌜ r .ending ≡ endingOf (asked request (now (arcs .entry))) (now (labels .entry)) (length (now (route .entry))) layer node cell ⌝ }
+    ensures { λ r. ⌜ r .costs ≡ costsAfter (asked request (now (arcs .entry))) (now (labels .entry)) (length (now (route .entry))) layer node cell ⌝ }
+    ensures { λ _. ⌜ now (route .exit) ≡ routeAfter (asked request (now (arcs .entry))) (now (labels .entry)) (now (route .entry)) layer node cell ⌝ }
+{
+    let d = request.criteria as usize;
+    let words = shape.labels as usize * (d + 2);
+    if labels.len() < words {
+        return refuse(13, 1);
+    }
+    if route.len() < request.hops as usize {
+        return refuse(13, 2);
+    }
+    let cells = shape.cells;
+    if beyond(request, cells, layer, node, cell) {
+        return refuse(14, 0);
+    }
+    let l = label(labels, request, cells, layer, node, cell);
+    if word(l, d) == 0 {
+        return no_route(Ending::Empty);
+    }
+    let costs = [cost(l, d, 0), cost(l, d, 1), cost(l, d, 2)];
+    let trail = follow(labels, arcs, request, cells, layer, node, cell, route);
+    match trail {
+        Trail::Broke(j) => refuse(16, j),
+        Trail::Whole(n) => Back {
+            ending: Ending::Route(n),
+            costs,
+        },
+    }
+}
+
+// Reads the label of a layer, node and cell back as a route: its arc count and costs, and its arc numbers in travel order
+// at the front of the lent buffer. An empty cell or a refusal leaves the buffer as it came.
+pub fn read_back(
+    request: Request,
+    arcs: &[u32],
+    labels: &[u32],
+    layer: u32,
+    node: u32,
+    cell: u32,
+    route: &mut [u32],
+) -> Back
+    ensures { λ r. ⌜ r .ending ≡ endingOf (asked request (now (arcs .entry))) (now (labels .entry)) (length (now (route .entry))) layer node cell ⌝ }
+    ensures { λ r. ⌜ r .costs ≡ costsAfter (asked request (now (arcs .entry))) (now (labels .entry)) (length (now (route .entry))) layer node cell ⌝ }
+    ensures { λ _. ⌜ now (route .exit) ≡ routeAfter (asked request (now (arcs .entry))) (now (labels .entry)) (now (route .entry)) layer node cell ⌝ }
+{
+    let checked = check(request, arcs);
+    match checked {
+        Checked::Refused(r) => refuse(r.number, r.place),
+        Checked::Shaped(shape) => {
+            read_shaped(request, arcs, labels, shape, layer, node, cell, route)
         }
     }
 }

@@ -194,10 +194,11 @@ returns c =
     let k = copied f in
     let s = start-of k in
     let a = s .args in
-    let n : c .arc-count .result ≡ length (arcs-of f) = c .arc-count .ensures ∙ ap countOf (f .follow .ensures .0) ∙ count-is (chain (R-of k) (W-of k) (R-of k .hops) (a .node) (a .cell)) in
-    (count-numbers (R-of k) (W-of k) (a .node) (a .cell) (a .request .criteria) (c .arc-count .result) (cost-count k) n,
-    numbers-are (R-of k) (W-of k) (a .numbers .now) _ (a .node) (a .cell)
-    (numbers.numbers-law (a .numbers .now) (a .node) (a .request .criteria) (costs-of k) (s .pre .1 .2) (s .pre .0 .small .three) (size k) (arcs-of f) (f .follow .last .1 .1 .1 .1 .1 .1 .1 .0) (few f) (f .follow .ensures .1) _ (c .arc-count .result) (stored k) n))
+    let n : c .arc-count .result ≡ length (arcs-of f) = c .arc-count .ensures ∙ ap countOf (f .follow .ensures .0) ∙ count-is (chain (R-of k) (W-of k) (R-of k .hops) (a .node) (a .cell)) in (
+      count-numbers (R-of k) (W-of k) (a .node) (a .cell) (a .request .criteria) (c .arc-count .result) (cost-count k) n,
+      numbers-are (R-of k) (W-of k) (a .numbers .now) _ (a .node) (a .cell)
+          (numbers.numbers-law (a .numbers .now) (a .node) (a .request .criteria) (costs-of k) (s .pre .1 .2) (s .pre .0 .small .three) (size k) (arcs-of f) (f .follow .last .1 .1 .1 .1 .1 .1 .1 .0) (few f) (f .follow .ensures .1) _ (c .arc-count .result) (stored k) n),
+    )
 
 pub label-numbers-spec : {M : Type 1} → statement M
 label-numbers-spec = tie.close (tie.spec cast-d label-at-requires add-end add-count add-first slice-write-numbers sub-copy part-copy-start part-copy-end mul-copy sub-copy-2 part-copy-start-2 part-copy-end-2 copy-requires mul-follow sub-follow part-follow-start part-follow-end follow-requires arc-count-requires mul-numbers slice-write-numbers-2 cast-result add-result same-length returns)

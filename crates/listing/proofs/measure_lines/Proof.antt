@@ -68,12 +68,13 @@ loop-again c =
     let m = c .before .before .measure-node .ensures in
     let t = total-next (filledOf (asked (a .request) (a .arcs .now)) (a .labels .now)) (l .v) in
     let j = join-end (nodeLines (asked (a .request) (a .arcs .now)) (a .labels .now)) (l .v) in
-    let k : (l .v + 1) * a .cells ≡ l .v * a .cells + a .cells = omega (arith, add-mul (l .v) 1 (a .cells), one-mul (a .cells)) in
-    (omega (arith, c .before .before .before .if1 .taken),
-    omega (arith, t, m .0 .0, l .inv .1),
-    omega (arith, m .0 .1, l .inv .2),
-    omega (arith, j, m .1 .0, l .inv .3),
-    omega (arith, m .1 .1, l .inv .4))
+    let k : (l .v + 1) * a .cells ≡ l .v * a .cells + a .cells = omega (arith, add-mul (l .v) 1 (a .cells), one-mul (a .cells)) in (
+      omega (arith, c .before .before .before .if1 .taken),
+      omega (arith, t, m .0 .0, l .inv .1),
+      omega (arith, m .0 .1, l .inv .2),
+      omega (arith, j, m .1 .0, l .inv .3),
+      omega (arith, m .1 .1, l .inv .4),
+    )
 
 returns : tie.Need-returns Inv-loop μ-loop
 unfolding filledLast labelLines
@@ -82,9 +83,10 @@ returns c =
     let a = s .args in
     let l = c .before .before .loop in
     let e : l .v ≡ a .request .nodes = omega (arith, c .if1 .left, l .inv .0) in
-    let k = mul-le-mul-right (a .cells) (l .inv .0) in
-    (l .inv .1 ∙ ap (total (filledOf (asked (a .request) (a .arcs .now)) (a .labels .now))) e,
-    (l .inv .3 ∙ ap (λ (k : ℕ). length (join (nodeLines (asked (a .request) (a .arcs .now)) (a .labels .now)) k)) e, omega (arith, l .inv .4, few-labels (a .request) (a .arcs .now) (a .labels .now) (a .cells) (s .pre))))
+    let k = mul-le-mul-right (a .cells) (l .inv .0) in (
+      l .inv .1 ∙ ap (total (filledOf (asked (a .request) (a .arcs .now)) (a .labels .now))) e,
+      (l .inv .3 ∙ ap (λ (k : ℕ). length (join (nodeLines (asked (a .request) (a .arcs .now)) (a .labels .now)) k)) e, omega (arith, l .inv .4, few-labels (a .request) (a .arcs .now) (a .labels .now) (a .cells) (s .pre))),
+    )
 
 pub measure-lines-spec : {M : Type 1} → statement M
 measure-lines-spec = tie.close (tie.spec Inv-loop μ-loop loop-holds measure-node-requires add-filled add-bytes add-v loop-less loop-again returns)

@@ -63,12 +63,13 @@ loop-again c =
     let l = c .before .before .before .before .loop in
     let m = c .before .before .measure-label .ensures in
     let t = total-next (filledAt (asked (a .request) (a .arcs .now)) (a .labels .now) (a .node)) (l .c) in
-    let j = join-end (labelLine (asked (a .request) (a .arcs .now)) (a .labels .now) (a .node)) (l .c) in
-    (omega (arith, c .before .before .before .loop-test .taken),
-    omega (arith, t, m .0 .0, l .inv .1),
-    omega (arith, m .0 .1, l .inv .2),
-    omega (arith, j, m .1 .0, l .inv .3),
-    omega (arith, m .1 .1, l .inv .4))
+    let j = join-end (labelLine (asked (a .request) (a .arcs .now)) (a .labels .now) (a .node)) (l .c) in (
+      omega (arith, c .before .before .before .loop-test .taken),
+      omega (arith, t, m .0 .0, l .inv .1),
+      omega (arith, m .0 .1, l .inv .2),
+      omega (arith, j, m .1 .0, l .inv .3),
+      omega (arith, m .1 .1, l .inv .4),
+    )
 
 returns : tie.Need-returns Inv-loop μ-loop
 unfolding filledOf nodeLines
@@ -76,9 +77,10 @@ returns c =
     let s = c .before .before .before .before in
     let a = s .args in
     let l = c .before .loop in
-    let e : l .c ≡ cells (asked (a .request) (a .arcs .now)) = omega (arith, c .loop-test .left, l .inv .0, s .pre .0 .cells-is) in
-    ((l .inv .1 ∙ ap (total (filledAt (asked (a .request) (a .arcs .now)) (a .labels .now) (a .node))) e, omega (arith, l .inv .2, l .inv .0)),
-    (l .inv .3 ∙ ap (λ (k : ℕ). length (join (labelLine (asked (a .request) (a .arcs .now)) (a .labels .now) (a .node)) k)) e, omega (arith, l .inv .4, l .inv .0)))
+    let e : l .c ≡ cells (asked (a .request) (a .arcs .now)) = omega (arith, c .loop-test .left, l .inv .0, s .pre .0 .cells-is) in (
+      (l .inv .1 ∙ ap (total (filledAt (asked (a .request) (a .arcs .now)) (a .labels .now) (a .node))) e, omega (arith, l .inv .2, l .inv .0)),
+      (l .inv .3 ∙ ap (λ (k : ℕ). length (join (labelLine (asked (a .request) (a .arcs .now)) (a .labels .now) (a .node)) k)) e, omega (arith, l .inv .4, l .inv .0)),
+    )
 
 pub measure-node-spec : {M : Type 1} → statement M
 measure-node-spec = tie.close (tie.spec Inv-loop μ-loop loop-holds measure-label-requires add-filled add-bytes add-c loop-less loop-again returns)

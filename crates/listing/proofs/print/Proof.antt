@@ -107,9 +107,10 @@ returns-2 c =
     let w = measured p in
     let b = start-of w .args .listing .now in
     let q = prints-text (listing-of w) b (fits p) in
-    let first = p .put-line .ensures .1 ∙ ap (write b 0) (cover-is w) in
-    (ap printed.Bytes (long w) ∙ q .answer,
-    listing-put (R-of w) (W-of w) (start-of w .args .tries) b (p .put-line .last .0) (l .last .1 .1 .1 .1 .0) (p .put-line .result) (ends p) first (l .ensures) ∙ q .left)
+    let first = p .put-line .ensures .1 ∙ ap (write b 0) (cover-is w) in (
+      ap printed.Bytes (long w) ∙ q .answer,
+      listing-put (R-of w) (W-of w) (start-of w .args .tries) b (p .put-line .last .0) (l .last .1 .1 .1 .1 .0) (p .put-line .result) (ends p) first (l .ensures) ∙ q .left,
+    )
 
 pub print-spec : {M : Type 1} → statement M
 print-spec = tie.close (tie.spec measure-lines-requires slice-aggregate-widths widths-requires add-n add-n-2 returns slice-aggregate-put-line slice-aggregate-put-line-2 put-line-requires put-labels-requires cast-t26 same-length returns-2)

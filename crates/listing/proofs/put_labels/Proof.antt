@@ -54,11 +54,12 @@ loop-again c =
     let a = s .args in
     let l = c .before .before .before .before .before .before .loop in
     let p = c .before .before .put-node in
-    let f = nodeLines (asked (a .request) (a .arcs .now)) (a .labels .now) in
-    (omega (arith, c .before .before .before .before .if1 .taken),
-    omega (arith, l .inv .1, p .kept .1 .1 .1 .1 .1 .0),
-    omega (arith, p .ensures .0, l .inv .2, join-end f (l .v)),
-    join-put f (a .listing .now) (l .listing) (p .last .1 .1 .1 .1 .1 .0) (a .at) (l .a) (l .v) (l .inv .2) (l .inv .3) (p .ensures .1))
+    let f = nodeLines (asked (a .request) (a .arcs .now)) (a .labels .now) in (
+      omega (arith, c .before .before .before .before .if1 .taken),
+      omega (arith, l .inv .1, p .kept .1 .1 .1 .1 .1 .0),
+      omega (arith, p .ensures .0, l .inv .2, join-end f (l .v)),
+      join-put f (a .listing .now) (l .listing) (p .last .1 .1 .1 .1 .1 .0) (a .at) (l .a) (l .v) (l .inv .2) (l .inv .3) (p .ensures .1),
+    )
 
 same-length : tie.Need-same-length Inv-loop μ-loop
 same-length c = c .before .before .loop .inv .1

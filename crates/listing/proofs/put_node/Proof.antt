@@ -54,11 +54,12 @@ loop-again c =
     let a = s .args in
     let l = c .before .before .before .before .before .loop in
     let p = c .before .before .put-label in
-    let f = labelLine (asked (a .request) (a .arcs .now)) (a .labels .now) (a .node) in
-    (omega (arith, c .before .before .before .before .loop-test .taken),
-    omega (arith, l .inv .1, p .kept .1 .1 .1 .1 .1 .1 .0),
-    omega (arith, p .ensures .0, l .inv .2, join-end f (l .c)),
-    join-put f (a .listing .now) (l .listing) (p .last .1 .1 .1 .1 .1 .1 .0) (a .at) (l .a) (l .c) (l .inv .2) (l .inv .3) (p .ensures .1))
+    let f = labelLine (asked (a .request) (a .arcs .now)) (a .labels .now) (a .node) in (
+      omega (arith, c .before .before .before .before .loop-test .taken),
+      omega (arith, l .inv .1, p .kept .1 .1 .1 .1 .1 .1 .0),
+      omega (arith, p .ensures .0, l .inv .2, join-end f (l .c)),
+      join-put f (a .listing .now) (l .listing) (p .last .1 .1 .1 .1 .1 .1 .0) (a .at) (l .a) (l .c) (l .inv .2) (l .inv .3) (p .ensures .1),
+    )
 
 same-length : tie.Need-same-length Inv-loop μ-loop
 same-length c = c .before .loop .inv .1

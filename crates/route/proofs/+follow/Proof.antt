@@ -157,7 +157,7 @@ follow-returns : (t : ℕ) → follow-lts.Need-returns (
   follow-below t,
   follow.Post,
 ) (follow-at t) follow.Post
-follow-returns t c = let s = c .before .before .before .before .before .before in let a = s .args in let R = asked (a .request) (a .arcs .now) in let W = a .labels .now in follow-fails (a .route .now) (chain R W (a .layer) (a .node) (a .cell) ) (a .layer) (chain-fails R W (a .layer) (a .node) (a .cell) (sym (c .before .before .leads .ensures) ∙ c .enum-told .given .1))
+follow-returns t c = let s = c .before .before .before .before .before .before in let a = s .args in let R = asked (a .request) (a .arcs .now) in let W = a .labels .now in follow-fails (a .route .now) (chain R W (a .layer) (a .node) (a .cell)) (a .layer) (chain-fails R W (a .layer) (a .node) (a .cell) (sym (c .before .before .leads .ensures) ∙ c .enum-told .given .1))
 
 follow-returns-2 : (t : ℕ) → follow-lts.Need-returns-2 (
   leads-reads.Asked,
@@ -165,7 +165,7 @@ follow-returns-2 : (t : ℕ) → follow-lts.Need-returns-2 (
   follow-below t,
   follow.Post,
 ) (follow-at t) follow.Post
-follow-returns-2 t c = let s = c .before .before .before .before .before .before in let a = s .args in let R = asked (a .request) (a .arcs .now) in let W = a .labels .now in follow-ends (a .route .now) (chain R W (a .layer) (a .node) (a .cell) ) (chain-ends R W (a .layer) (a .node) (a .cell) (sym (c .before .before .leads .ensures) ∙ c .enum-told2 .given .1))
+follow-returns-2 t c = let s = c .before .before .before .before .before .before in let a = s .args in let R = asked (a .request) (a .arcs .now) in let W = a .labels .now in follow-ends (a .route .now) (chain R W (a .layer) (a .node) (a .cell)) (chain-ends R W (a .layer) (a .node) (a .cell) (sym (c .before .before .leads .ensures) ∙ c .enum-told2 .given .1))
 
 follow-same-length : (t : ℕ) → follow-lts.Need-same-length (
   leads-reads.Asked,
@@ -182,7 +182,7 @@ follow-returns-3 : (t : ℕ) → follow-lts.Need-returns-3 (
   follow.Post,
 ) (follow-at t) follow.Post
 unfolding reach
-follow-returns-3 t c = let s = c .before .before .before .before .before .before .before .before .before .before in let a = s .args in let R = asked (a .request) (a .arcs .now) in let W = a .labels .now in follow-kept (a .route .now) (chain R W (a .layer) (a .node) (a .cell) ) _ (chain R W (a .layer - 1) (a .node) (a .cell)) (c .before .before .follow .ensures .1) (c .before .before .follow .ensures .0) (chain-kept R W (a .layer) (a .node) (a .cell) (s .pre .1 .1 .1 .1 .1) (sym (c .before .before .before .before .before .before .leads .ensures) ∙ c .before .before .before .before .enum-told3 .given .1))
+follow-returns-3 t c = let s = c .before .before .before .before .before .before .before .before .before .before in let a = s .args in let R = asked (a .request) (a .arcs .now) in let W = a .labels .now in follow-kept (a .route .now) (chain R W (a .layer) (a .node) (a .cell)) _ (chain R W (a .layer - 1) (a .node) (a .cell)) (c .before .before .follow .ensures .1) (c .before .before .follow .ensures .0) (chain-kept R W (a .layer) (a .node) (a .cell) (s .pre .1 .1 .1 .1 .1) (sym (c .before .before .before .before .before .before .leads .ensures) ∙ c .before .before .before .before .enum-told3 .given .1))
 
 follow-same-length-2 : (t : ℕ) → follow-lts.Need-same-length-2 (
   leads-reads.Asked,
@@ -199,7 +199,7 @@ follow-returns-4 : (t : ℕ) → follow-lts.Need-returns-4 (
   follow.Post,
 ) (follow-at t) follow.Post
 unfolding reach
-follow-returns-4 t c = let s = c .before .before .before .before .before .before .before .before .before .before .before .before .before .before in let a = s .args in let R = asked (a .request) (a .arcs .now) in let W = a .labels .now in let f = c .before .before .before .before .before .before .before .before .found .given .0 in follow-broke (a .route .now) (chain R W (a .layer) (a .node) (a .cell) ) _ (chain R W (a .layer - 1) (f .1 .0) (f .1 .1 .0)) (c .before .before .before .before .before .follow2 .ensures .1) (f .0) (chain-came R W (a .layer) (a .node) (a .cell) (s .pre .1 .1 .1 .1 .1) (c .before .before .before .before .before .before .before .before .found .given .0 .0) (c .before .before .before .before .before .before .before .before .found .given .0 .1 .0) (c .before .before .before .before .before .before .before .before .found .given .0 .1 .1 .0) (sym (c .before .before .before .before .before .before .before .before .before .before .leads .ensures) ∙ c .before .before .before .before .before .before .before .before .found .given .1)) (c .before .earlier .given .0 .0) (sym (c .before .earlier .given .1) ∙ c .before .before .before .before .before .follow2 .ensures .0)
+follow-returns-4 t c = let s = c .before .before .before .before .before .before .before .before .before .before .before .before .before .before in let a = s .args in let R = asked (a .request) (a .arcs .now) in let W = a .labels .now in let f = c .before .before .before .before .before .before .before .before .found .given .0 in follow-broke (a .route .now) (chain R W (a .layer) (a .node) (a .cell)) _ (chain R W (a .layer - 1) (f .1 .0) (f .1 .1 .0)) (c .before .before .before .before .before .follow2 .ensures .1) (f .0) (chain-came R W (a .layer) (a .node) (a .cell) (s .pre .1 .1 .1 .1 .1) (c .before .before .before .before .before .before .before .before .found .given .0 .0) (c .before .before .before .before .before .before .before .before .found .given .0 .1 .0) (c .before .before .before .before .before .before .before .before .found .given .0 .1 .1 .0) (sym (c .before .before .before .before .before .before .before .before .before .before .leads .ensures) ∙ c .before .before .before .before .before .before .before .before .found .given .1)) (c .before .earlier .given .0 .0) (sym (c .before .earlier .given .1) ∙ c .before .before .before .before .before .follow2 .ensures .0)
 
 follow-same-length-3 : (t : ℕ) → follow-lts.Need-same-length-3 (
   leads-reads.Asked,
@@ -216,7 +216,7 @@ follow-returns-5 : (t : ℕ) → follow-lts.Need-returns-5 (
   follow.Post,
 ) (follow-at t) follow.Post
 unfolding reach
-follow-returns-5 t c = let s = c .before .before .before .before .before .before .before .before .before .before .before .before .before .before in let a = s .args in let R = asked (a .request) (a .arcs .now) in let W = a .labels .now in let f = c .before .before .before .before .before .before .before .before .found .given .0 in follow-came (a .route .now) (chain R W (a .layer) (a .node) (a .cell) ) _ (chain R W (a .layer - 1) (f .1 .0) (f .1 .1 .0)) (c .before .before .before .before .before .follow2 .ensures .1) (f .0) (chain-came R W (a .layer) (a .node) (a .cell) (s .pre .1 .1 .1 .1 .1) (c .before .before .before .before .before .before .before .before .found .given .0 .0) (c .before .before .before .before .before .before .before .before .found .given .0 .1 .0) (c .before .before .before .before .before .before .before .before .found .given .0 .1 .1 .0) (sym (c .before .before .before .before .before .before .before .before .before .before .leads .ensures) ∙ c .before .before .before .before .before .before .before .before .found .given .1)) (c .before .earlier2 .given .0 .0) (sym (c .before .earlier2 .given .1) ∙ c .before .before .before .before .before .follow2 .ensures .0)
+follow-returns-5 t c = let s = c .before .before .before .before .before .before .before .before .before .before .before .before .before .before in let a = s .args in let R = asked (a .request) (a .arcs .now) in let W = a .labels .now in let f = c .before .before .before .before .before .before .before .before .found .given .0 in follow-came (a .route .now) (chain R W (a .layer) (a .node) (a .cell)) _ (chain R W (a .layer - 1) (f .1 .0) (f .1 .1 .0)) (c .before .before .before .before .before .follow2 .ensures .1) (f .0) (chain-came R W (a .layer) (a .node) (a .cell) (s .pre .1 .1 .1 .1 .1) (c .before .before .before .before .before .before .before .before .found .given .0 .0) (c .before .before .before .before .before .before .before .before .found .given .0 .1 .0) (c .before .before .before .before .before .before .before .before .found .given .0 .1 .1 .0) (sym (c .before .before .before .before .before .before .before .before .before .before .leads .ensures) ∙ c .before .before .before .before .before .before .before .before .found .given .1)) (c .before .earlier2 .given .0 .0) (sym (c .before .earlier2 .given .1) ∙ c .before .before .before .before .before .follow2 .ensures .0)
 
 pub +follow-spec : {M : Type 1} → statement M
 +follow-spec = close μ-follow λ t. follow-lts.spec (
