@@ -56,12 +56,13 @@ module _ (q : Request) (arcs : List ℕ) (ok : Accepted (asked q arcs)) where
   is-table : Tabled R W (cells R)
   is-table = tabled q arcs ok (shapeOf R) refl
 
-  front : Fronts R W
+  -- in front of themselves
+  pub front : Fronts (asked q arcs) (table (asked q arcs))
   unfolding Fronts
   front = take-length W
 
   -- the label of the last layer
-  last-is : (v c : ℕ) → v < q .nodes → c < cells R → lastLabel R W v c ≡ labelAt R (q .hops) v c
+  pub last-is : (v c : ℕ) → v < q .nodes → c < cells (asked q arcs) → lastLabel (asked q arcs) (table (asked q arcs)) v c ≡ labelAt (asked q arcs) (q .hops) v c
   unfolding lastLabel
   last-is v c hv hc = label-in R (accepted-regular R ok) W front (q .hops) v c (le-refl (q .hops)) hv hc
 
