@@ -15,9 +15,9 @@ use Rattle.rounds.specs.Rounds.{block, blank, startBlock, startLayer, keepCell,
 use Rattle.route.specs.Chain.{labelIn, same, startHolds, agrees, keptHolds, arcHolds, chainIn, chain}
 use Rattle.listing.specs.Listing.{lastLabel, lastRoute, filledAt, filledOf, filledLast, labelNumbers, labelLine, nodeLines, labelLines, coverLine, listingText}
 use Rattle.listing.specs.List.{asks, listingOf}
-use Rattle.listing.specs.Example.{input, output, Printed}
+use Rattle.listing.specs.Example.{input, output, PrintedExample}
 
 -- THE PRINTED EXAMPLE
-pub the-printed : Printed
+pub the-printed : PrintedExample
 unfolding upTo total write at put join volume radix fence.fence fence.fences fence.passed fence.position fence.buckets before common digitsAfter number digitsWithin digits item numbers lineOf parted lineText lower ratioP ratioQ arcCount arc tail head arcCosts reach largestOf largest top buckets position cells cell kindOf linesFrom sheetOf costs step from filled empty start kept sum candidate came wins block blank startBlock startLayer keepCell keepBlock keepAll offer tryCell tryArc arcStep round layer table filledIn roundTries tries labelIn same startHolds agrees keptHolds arcHolds chainIn chain lastLabel lastRoute filledAt filledOf filledLast labelNumbers labelLine nodeLines labelLines coverLine listingText asks listingOf input output
 the-printed = refl

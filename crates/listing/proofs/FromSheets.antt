@@ -57,6 +57,7 @@ module _ (s buffer : List ℕ) (room : length buffer ≡ 2560) where
       unfolding requestListed listedOf listRows
       sheet-listed = sym (ap (λ (x : Weighed). answer x (length (listingOf (asks s)))) (weigh-append (reader.formRows s) (requestRows (asks s) (length bytes)) form-clear))
 
+      -- so do its bytes
       pub sheet-after : requestAfter (asks s) bytes ≡ listingAfter s bytes
       unfolding requestAfter listingAfter listRows
       sheet-after = sym (ap (λ (x : Weighed). settle x (write bytes 0 (listingOf (asks s))) bytes) (weigh-append (reader.formRows s) (requestRows (asks s) (length bytes)) form-clear))

@@ -25,19 +25,24 @@ use Rattle.listing.proofs.Lines.{line-wide}
 
 -- ---- digits
 
+-- below 10
 one-digit : (n : ℕ) → n < 10 → length (digits n) ≤ 1
 one-digit n h = omega (arith, width-small n h)
 
+-- below 100
 pub two-digits : (n : ℕ) → n < 100 → length (digits n) ≤ 2
 two-digits n h = width-within 1 10 one-digit n (omega arith)
 
+-- below 1,000
 pub three-digits : (n : ℕ) → n < 1000 → length (digits n) ≤ 3
 three-digits n h = width-within 2 100 two-digits n (omega arith)
 
+-- below 100,000,000
 pub eight-digits : (n : ℕ) → n < 100000000 → length (digits n) ≤ 8
 eight-digits n h =
     width-within 7 10000000 (width-within 6 1000000 (width-within 5 100000 (width-within 4 10000 (width-within 3 1000 three-digits)))) n (omega arith)
 
+-- 0 has one
 pub no-digits : (n : ℕ) → n ≤ 0 → length (digits n) ≤ 1
 no-digits n h = one-digit n (omega arith)
 

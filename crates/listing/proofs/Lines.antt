@@ -30,6 +30,7 @@ pub not-true : (b : Bool) → not b ≡ true → b ≡ false
 not-true true e = sym e
 not-true false e = refl
 
+-- and the other way round
 pub not-false : (b : Bool) → not b ≡ false → b ≡ true
 not-false true e = refl
 not-false false e = sym e
@@ -47,6 +48,7 @@ module _ (R : Req) (W : List ℕ) (v c : ℕ) where
 
 -- a label has at most 68 numbers: the node, three costs, the arc count and 63 arcs
 module _ (q : Request) (arcs W : List ℕ) (C : ℕ) (ok : Tabled (asked q arcs) W C) (v c : ℕ) (hv : v < q .nodes) (hc : c < C) where
+  -- the costs are d, and the arcs at most K
   pub few-numbers : length (labelNumbers (asked q arcs) W v c) ≤ 68
   unfolding labelNumbers lastRoute
   few-numbers =

@@ -66,6 +66,7 @@ module _ (R : Req) (bytes : List ℕ) where
     unfolding requestRows requestListed requestAfter Accepted printedOf bytesAfter
     lists-printed h p after e f = ⊎-elim longer enough (lt-or-le (length bytes) (length (listingOf R)))
       where
+        -- it is longer
         longer : length bytes < length (listingOf R) → Lists R bytes (printedAs p) after
         longer l =
             let t = lt-ltb (length bytes) (length (listingOf R)) l in
@@ -77,6 +78,7 @@ module _ (R : Req) (bytes : List ℕ) where
               left = b ∙ sym (ap (λ (x : Weighed). settle x (write bytes 0 (listingOf R)) bytes) w);
             }
 
+        -- it fits
         enough : length (listingOf R) ≤ length bytes → Lists R bytes (printedAs p) after
         enough l =
             let t = le-ltb (length bytes) (length (listingOf R)) l in
@@ -96,6 +98,7 @@ module _ (R : Req) (ok : Accepted R) (ladderRoom : ℕ) (room : length (ladders 
   unfolding build.builtOf
   fitting h = ap (λ (w : Weighed). build.answer w (tries R (R .hops))) (all-clear R ladderRoom 12288 ok room h)
 
+  -- and where the table does not fit
   many : 12288 < labelCount R * width R → build.builtOf R ladderRoom 12288 ≡ built.Refused (record { number = 13; place = 2 })
   unfolding build.builtOf
   many h = ap (λ (w : Weighed). build.answer w (tries R (R .hops))) (short-labels R ladderRoom 12288 ok room h)

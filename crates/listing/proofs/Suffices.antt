@@ -71,6 +71,7 @@ module _ (q : Request) (arcs : List ℕ) (ok : Accepted (asked q arcs)) where
   unfolding AtMost Within
   costs-most v c hv hc t j = ⊎-elim inside beyond (lt-or-le j (q .criteria))
     where
+      -- of the d costs
       inside : j < q .criteria → getD (costs R (lastLabel R W v c)) j 0 ≤ q .hops * 1000000
       inside l =
           let e = last-is v c hv hc in
@@ -78,6 +79,7 @@ module _ (q : Request) (arcs : List ℕ) (ok : Accepted (asked q arcs)) where
           let m = mul-le-mul (le-refl (q .hops)) (largest-le R (accepted-small R ok) j l) in
           omega (arith, ap (λ (x : List ℕ). getD (costs R x) j 0) e, w, m)
 
+      -- past them
       beyond : q .criteria ≤ j → getD (costs R (lastLabel R W v c)) j 0 ≤ q .hops * 1000000
       beyond g =
           let n = costs-long q arcs W (cells R) is-table v c hv hc in
@@ -95,15 +97,19 @@ module _ (q : Request) (arcs : List ℕ) (ok : Accepted (asked q arcs)) where
         (omega (arith, accepted-small R ok .nodes-few)) (omega (arith, arcs-short, accepted-small R ok .hops-few)) (costs-width t) arcs-width)
         (λ _. zero-le)
       where
+        -- at most K arcs
         arcs-short : length (lastRoute R W v c) ≤ q .hops
         arcs-short = chain-short R W (q .hops) v c
 
+        -- arc numbers have at most three digits
         three : (n : ℕ) → n ≤ arcCount R → length (digits n) ≤ 3
         three n l = three-digits n (omega (arith, accepted-small R ok .arcs-few))
 
+        -- so the arcs take at most 4 bytes for each hop
         arcs-width : partedWidth (lastRoute R W v c) ≤ q .hops * 4
         arcs-width = omega (arith, parted-few (arcCount R) 3 three (lastRoute R W v c) (chain-arcs R W (q .hops) v c), arcs-short)
 
+        -- and the costs at most w + 1 bytes each
         costs-width : T (filled R (lastLabel R W v c)) → partedWidth (costs R (lastLabel R W v c)) ≤ q .criteria * (w + 1)
         costs-width t =
             subst (λ (n : ℕ). partedWidth (costs R (lastLabel R W v c)) ≤ n * (w + 1)) (costs-long q arcs W (cells R) is-table v c hv hc)
@@ -123,11 +129,13 @@ module _ (q : Request) (arcs : List ℕ) (ok : Accepted (asked q arcs)) where
   unfolding labelCount
   labels-few h = ⊎-elim none some (lt-or-le (q .hops) 1)
     where
+      -- with no hop costs are 0
       none : q .hops < 1 → length (labelLines R W) ≤ 52900
       none l =
           let z : q .hops ≡ 0 = omega arith in
           omega (arith, lines-few 1 (λ n g. no-digits n (omega arith)), mul-assoc (q .nodes) (cells R) (12 + q .criteria * 2 + q .hops * 4), no-hops (q .nodes * cells R) (q .hops) (q .criteria) (accepted-small R ok .two) (accepted-small R ok .three) z h)
 
+      -- else they have at most eight digits
       some : 1 ≤ q .hops → length (labelLines R W) ≤ 52900
       some l =
           omega (arith, lines-few 8 (λ n g. eight-digits n (omega (arith, g, accepted-small R ok .hops-few))), mul-assoc (q .nodes) (cells R) (12 + q .criteria * 9 + q .hops * 4), some-hops (q .nodes * cells R) (q .hops) (q .criteria) (accepted-small R ok .two) (accepted-small R ok .three) l h)

@@ -2,8 +2,7 @@
 use Prim.Native.Nat.{ℕ}
 use mathlib.Core.Path.{_≡_}
 use mathlib.Core.List.{List, [], _∷_}
-use Rattle.listing.specs.declared.Listed.the-variants as listed
-use Rattle.listing.specs.List.{asks, listingOf, listedOf}
+use Rattle.listing.specs.List.{asks, listingOf}
 
 -- "Input", a line of the sheet to a line here
 unfoldable pub input : List ℕ
@@ -28,5 +27,5 @@ output =
     ∷ []
 
 -- the input's listing is the output
-abbrev pub Printed : Type 0
-Printed = listingOf (asks input) ≡ output
+abbrev pub PrintedExample : Type 0
+PrintedExample = listingOf (asks input) ≡ output

@@ -22,6 +22,7 @@ module _ (c : tie.After-widths) where
   abbrev line-of : List ℕ
   line-of = refusalLine (start-of .args .refusal .number) (start-of .args .refusal .place)
 
+  -- the word, the numbers and the LF
   long : 8 + c .widths .result ≡ length line-of
   unfolding refusalLine
   long = let r = start-of .args .refusal in omega (arith, c .widths .ensures .0, line-wide refusedWord (r .number ∷ r .place ∷ []))

@@ -24,21 +24,26 @@ module _ (c : tie.After-read) where
   abbrev bytes-of : List ℕ
   bytes-of = start-of .args .sheet .now
 
+  -- so many words were lent
   room : length (replicate {A = ℕ} 2560 0) ≡ 2560
   room = length-replicate {A = ℕ} 2560 0
 
   -- ---- where it read a sheet
 
   module _ (n : ℕ) (e : c .read .result .outcome ≡ outcome.Sheet n) where
+    -- what it says
     told : reader.said (outcome.Sheet n) ≡ reader.readSays bytes-of (length (replicate {A = ℕ} 2560 0))
     told = sym (ap reader.said e) ∙ c .read .ensures .0
 
+    -- no more words than were lent
     few : n ≤ 2560
     few = sheet-words bytes-of (replicate 2560 0) room (start-of .args .listing .now) n told
 
+    -- which are as many as before
     long : length (c .read .last .1 .0) ≡ 2560
     long = c .read .kept .1 .0 ∙ room
 
+    -- the request that was read is the one that the sheet asks
     is-asked : asked (c .read .result .request) (take n (c .read .last .1 .0)) ≡ asks bytes-of
     is-asked = sheet-asks bytes-of (replicate 2560 0) room (start-of .args .listing .now) n told _ _ (c .read .ensures .1 .0) (c .read .ensures .1 .1)
 
