@@ -1,12 +1,11 @@
 -- An answer's numbers tell the answer, two answers that the promise allows are the same, and what is listed is a walk. Assumes nothing.
-use Prim.Native.Nat.{ℕ, _≤_, _<_}
-use mathlib.Core.Path.{_≡_, refl, sym, ap, _∙_, subst}
+use Prim.Native.Nat.{ℕ, _<_}
+use mathlib.Core.Path.{_≡_, sym, ap, _∙_, subst}
 use mathlib.Core.List.{List}
 use native.Mathlib.Nat.{le-refl}
 use native.Mathlib.Omega.{arith}
 use lib.ListN.{length}
 use lib.Dec.{T}
-use Rattle.request.specs.declared.Refusal.{Refusal}
 use Rattle.request.specs.declared.Request.{Request}
 use Rattle.request.specs.Request.{Req, asked}
 use Rattle.request.specs.Shape.{cells}
@@ -15,9 +14,6 @@ use Rattle.request.proofs.Accepted.{accepted-regular}
 use Rattle.sheet.proofs.Answers.{same-refusal}
 use Rattle.rounds.specs.Label.{costs, filled}
 use Rattle.rounds.specs.Rounds.{table}
-use Rattle.cover.specs.Cover.{route}
-use Rattle.cover.specs.Walk.{Walk, sums}
-use Rattle.route.specs.Chain.{Chain, whole, chain}
 use Rattle.route.specs.Answer.{arcsOf}
 use Rattle.route.specs.Walked.{Walked, Sound}
 use Rattle.route.proofs.Sound.{chain-sound}

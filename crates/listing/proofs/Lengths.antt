@@ -1,19 +1,16 @@
 -- How long a listing can be: from 12,288 label words every listing is under 53,000 bytes. Assumes nothing.
-use Prim.Native.Nat.{ℕ, zero, suc, _+_, _*_, _≤_, _<_, zero-le}
+use Prim.Native.Nat.{ℕ, _+_, _*_, _≤_, _<_, zero-le}
 use mathlib.Core.Path.{_≡_, refl, sym, ap, _∙_, subst}
 use mathlib.Core.Logic.{⊎-elim}
 use mathlib.Core.List.{List, [], _∷_, _++_}
-use native.Mathlib.Nat.{suc-mul, add-mul, one-mul, mul-assoc, mul-comm, mul-le-mul, mul-le-mul-right, le-refl, le-trans, le-of-eq}
+use native.Mathlib.Nat.{suc-mul, add-mul, one-mul, mul-assoc, mul-comm, mul-le-mul-right, le-trans, le-of-eq}
 use native.Mathlib.Omega.{arith}
-use lib.ListN.{length, getD}
-use lib.Dec.{T}
-use Rattle.words.specs.Loops.{total}
+use lib.ListN.{length}
 use Rattle.words.specs.Pieces.{join}
 use Rattle.words.specs.Bounds.{AtMost}
 use Rattle.words.proofs.Loops.{total-le}
 use Rattle.words.proofs.Pieces.{join-total}
-use Rattle.words.proofs.Bounds.{atMost-at, atMost-drop, atMost-more}
-use Rattle.words.proofs.Choices.{cond-cases}
+use Rattle.words.proofs.Bounds.{atMost-at, atMost-drop}
 use Rattle.text.specs.Number.{digits}
 use Rattle.text.specs.Line.{partedWidth, lineText}
 use Rattle.text.proofs.Fields.{lt-or-le}

@@ -1,12 +1,11 @@
 -- The listing of a request by its refusal table: after the check, after the build, after the printing. Assumes nothing.
 use Prim.Native.Nat.{ℕ, _+_, _*_, _≤_, _<_}
-use mathlib.Core.Path.{_≡_, refl, sym, ap, ap₂, _∙_, subst}
-use mathlib.Core.Logic.{_⊎_, ⊎-elim}
+use mathlib.Core.Path.{_≡_, refl, sym, ap, ap₂, _∙_}
+use mathlib.Core.Logic.{⊎-elim}
 use mathlib.Core.Bool.{Bool, cond}
-use mathlib.Core.List.{List, [], _∷_, _++_}
+use mathlib.Core.List.{List}
 use native.Mathlib.Omega.{arith}
 use lib.ListN.{length, take}
-use lib.Dec.{ltb}
 use borrow.Author.Tests.{lt-ltb, le-ltb}
 use Rattle.words.specs.Pieces.{write}
 use Rattle.words.specs.Rows.{Weighed, clear, refused, weigh, settle}
@@ -24,7 +23,6 @@ use Rattle.request.specs.Answer.{shapeOf}
 use Rattle.request.proofs.Accepted.{accepted-regular, accepted-small, accepted-fits}
 use Rattle.request.proofs.Tests.{lt-holds, lt-fails}
 use Rattle.rounds.specs.Rounds.{table, tries}
-use Rattle.table.specs.declared.Built.{Built}
 use Rattle.table.specs.declared.Built.the-variants as built
 use Rattle.table.specs.Build as build
 use Rattle.table.proofs.Building.{short-labels, all-clear, table-room, shape-labels, shape-cells}
@@ -32,7 +30,6 @@ use Rattle.listing.specs.declared.Printed.{Printed}
 use Rattle.listing.specs.declared.Printed.the-variants as printed
 use Rattle.listing.specs.declared.Listed.{Listed}
 use Rattle.listing.specs.declared.Listed.the-variants as listed
-use Rattle.listing.specs.Listing.{listingText}
 use Rattle.listing.specs.Print.{printedOf, bytesAfter, Tabled}
 use Rattle.listing.specs.List.{listingOf, requestRows, answer, requestListed, requestAfter, printedAs}
 

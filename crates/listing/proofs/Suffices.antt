@@ -1,8 +1,8 @@
 -- The lister's own bytes: the listing of a table of at most 12,288 words is under 53,000 bytes, so that many bytes suffice. Assumes nothing.
 use Prim.Native.Nat.{ℕ, _+_, _*_, _≤_, _<_, zero-le}
-use mathlib.Core.Path.{_≡_, refl, sym, ap, _∙_, subst}
+use mathlib.Core.Path.{_≡_, refl, ap, _∙_, subst}
 use mathlib.Core.Logic.{⊎-elim}
-use mathlib.Core.List.{List, [], _∷_, _++_}
+use mathlib.Core.List.{List, [], _∷_}
 use native.Mathlib.Nat.{le-refl, le-trans, le-of-eq, mul-assoc, mul-le-mul}
 use native.Mathlib.Omega.{arith}
 use lib.ListN.{length, getD, List·getD-eq-default}
@@ -19,7 +19,7 @@ use Rattle.text.proofs.Fields.{lt-or-le}
 use Rattle.text.proofs.Digits.{width-word}
 use Rattle.request.specs.declared.Request.{Request}
 use Rattle.request.specs.Request.{Req, asked, width, arcCount}
-use Rattle.request.specs.Shape.{largest, cells, labelCount}
+use Rattle.request.specs.Shape.{cells, labelCount}
 use Rattle.request.specs.Accepted.{Accepted}
 use Rattle.request.specs.Answer.{shapeOf}
 use Rattle.request.specs.Rows.{rows}
@@ -34,7 +34,7 @@ use Rattle.rounds.proofs.Costs.{Within, layer-costs}
 use Rattle.rounds.proofs.Tries.{bit-le}
 use Rattle.route.specs.Walked.{Fronts}
 use Rattle.route.proofs.Tables.{label-in}
-use Rattle.listing.specs.Listing.{coverWord, lastLabel, lastRoute, filledAt, filledOf, filledLast, labelNumbers, labelLine, nodeLines, labelLines, coverLine, listingText}
+use Rattle.listing.specs.Listing.{coverWord, lastLabel, lastRoute, filledAt, filledOf, filledLast, labelNumbers, labelLine, nodeLines, labelLines, coverLine}
 use Rattle.listing.specs.Print.{Tabled}
 use Rattle.listing.specs.List.{asks, listingOf, requestRows, listRows}
 use Rattle.listing.proofs.Chains.{chain-short, chain-arcs}

@@ -1,6 +1,6 @@
 -- `label_numbers`: the node, the costs, the arcs behind them, and the arc count between. Assumes nothing.
-use Prim.Native.Nat.{ℕ, _+_, _-_, _*_, _≤_}
-use mathlib.Core.Path.{_≡_, refl, sym, ap, _∙_}
+use Prim.Native.Nat.{ℕ, _+_, _-_, _≤_}
+use mathlib.Core.Path.{_≡_, sym, ap, _∙_}
 use mathlib.Core.List.{List, _∷_, _++_}
 use native.Mathlib.Omega.{arith}
 use lib.ListN.{length, set, length-set, length-append}
@@ -9,9 +9,8 @@ use Rattle.words.specs.Pieces.{part, write}
 use Rattle.words.proofs.Writes.{length-part}
 use Rattle.request.specs.Request.{Req, asked, reach}
 use Rattle.rounds.specs.Label.{costs}
-use Rattle.route.specs.Chain.{Chain, chain}
+use Rattle.route.specs.Chain.{chain}
 use Rattle.route.specs.Answer.{arcsOf}
-use Rattle.route.specs.declared.Trail.{Trail}
 use Rattle.listing.specs.Listing.{lastLabel, lastRoute, labelNumbers}
 use Rattle.listing.specs.Print.{countOf}
 use Rattle.listing.proofs.Chains.{count-is, chain-short}

@@ -1,16 +1,14 @@
 -- `measure_label`: nothing for an empty label; the word, the numbers and the LF for a filled one. Assumes nothing.
-use Prim.Native.Nat.{ℕ, _+_, _*_, _≤_}
-use mathlib.Core.Path.{_≡_, refl, sym, ap, _∙_}
-use mathlib.Core.List.{List, []}
+use Prim.Native.Nat.{ℕ, _≤_}
+use mathlib.Core.Path.{_≡_, sym, ap, _∙_}
+use mathlib.Core.List.{List}
 use native.Mathlib.Omega.{arith}
 use lib.ListN.{length, take, replicate, length-replicate}
 use borrow.Author.Needs.{needs}
-use Rattle.words.specs.Pieces.{write}
 use Rattle.words.proofs.Writes.{length-write}
-use Rattle.text.specs.Line.{partedWidth, lineText}
+use Rattle.text.specs.Line.{partedWidth}
 use Rattle.request.specs.Request.{asked}
-use Rattle.sheet.specs.Grammar.{tab}
-use Rattle.listing.specs.Listing.{labelWord, labelNumbers, labelLine}
+use Rattle.listing.specs.Listing.{labelWord, labelNumbers}
 use Rattle.listing.proofs.Lines.{line-wide, not-true, not-false, empty-label, filled-label, few-numbers, numbers-front}
 use Rattle.listing.proofs.measure_label.Statement.{statement}
 use Rattle.listing.proofs.measure_label.Tie as tie

@@ -1,17 +1,17 @@
 -- `print`: the length first, and then the cover and the labels. Assumes nothing.
 use Prim.Native.Nat.{ℕ, _+_, _≤_}
-use mathlib.Core.Path.{_≡_, refl, sym, ap, _∙_}
+use mathlib.Core.Path.{_≡_, ap, _∙_}
 use mathlib.Core.List.{List, [], _∷_}
 use native.Mathlib.Omega.{arith}
 use native.Mathlib.Nat.{zero-add}
 use lib.ListN.{length}
 use borrow.Author.Needs.{needs}
 use Rattle.words.specs.Pieces.{write}
-use Rattle.text.specs.Line.{partedWidth, lineText}
+use Rattle.text.specs.Line.{lineText}
 use Rattle.request.specs.Request.{Req, asked}
 use Rattle.sheet.specs.Grammar.{tab}
 use Rattle.listing.specs.declared.Printed.the-variants as printed
-use Rattle.listing.specs.Listing.{coverWord, filledLast, coverLine, labelLines, listingText}
+use Rattle.listing.specs.Listing.{coverWord, coverLine, listingText}
 use Rattle.listing.proofs.Lines.{line-wide}
 use Rattle.listing.proofs.Prints.{prints-longer, prints-text, listing-length, listing-put}
 use Rattle.listing.proofs.print.Statement.{statement}

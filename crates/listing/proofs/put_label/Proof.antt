@@ -1,13 +1,13 @@
 -- `put_label`: nothing for an empty label, the line of a filled one. Assumes nothing.
-use Prim.Native.Nat.{ℕ, _+_, _*_, _≤_}
-use mathlib.Core.Path.{_≡_, refl, sym, ap, _∙_}
-use mathlib.Core.List.{List, []}
+use Prim.Native.Nat.{ℕ, _+_, _≤_}
+use mathlib.Core.Path.{_≡_, sym, ap, _∙_}
+use mathlib.Core.List.{List}
 use native.Mathlib.Omega.{arith}
 use lib.ListN.{length, take, replicate, length-replicate}
 use borrow.Author.Needs.{needs}
 use Rattle.words.specs.Pieces.{write}
 use Rattle.words.proofs.Writes.{length-write}
-use Rattle.text.specs.Line.{partedWidth, lineText}
+use Rattle.text.specs.Line.{lineText}
 use Rattle.request.specs.Request.{asked}
 use Rattle.sheet.specs.Grammar.{tab}
 use Rattle.listing.specs.Listing.{labelWord, labelNumbers, labelLine}

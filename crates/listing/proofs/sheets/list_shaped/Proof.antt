@@ -1,6 +1,6 @@
 -- `list_shaped`: the build's refusal, or the table's listing. Assumes nothing.
-use Prim.Native.Nat.{ℕ, _+_, _*_, _≤_, _<_}
-use mathlib.Core.Path.{_≡_, refl, sym, ap, ap₂, _∙_, subst}
+use Prim.Native.Nat.{ℕ, _+_, _*_, _≤_}
+use mathlib.Core.Path.{_≡_, sym, ap, ap₂, _∙_, subst}
 use mathlib.Core.List.{List}
 use native.Mathlib.Omega.{arith}
 use lib.ListN.{length, take, replicate, length-replicate}
@@ -8,17 +8,15 @@ use lib.Seq.{length-take-le}
 use borrow.Author.Needs.{needs}
 use Rattle.request.specs.Request.{Req, asked, width}
 use Rattle.request.specs.Shape.{ladders, labelCount}
-use Rattle.request.specs.declared.Refusal.{Refusal}
 use Rattle.rounds.specs.Rounds.{table, tries}
 use Rattle.table.specs.declared.Built.the-variants as built
-use Rattle.table.specs.Build.{builtOf, labelsAfter}
+use Rattle.table.specs.Build.{builtOf}
 use Rattle.listing.specs.declared.Listed.the-variants as listed
-use Rattle.listing.specs.declared.Printed.{Printed}
 use Rattle.listing.specs.Listing.{listingText}
 use Rattle.listing.specs.Print.{printedOf, bytesAfter, Tabled}
-use Rattle.listing.specs.List.{listingOf, printedAs}
+use Rattle.listing.specs.List.{listingOf}
 use Rattle.listing.proofs.Rooms.{ladders-few, tries-few}
-use Rattle.listing.proofs.Requests.{Lists, lists-many, lists-printed, build-refused, build-tries, build-words, words-are, tabled, table-front}
+use Rattle.listing.proofs.Requests.{lists-many, lists-printed, build-refused, build-tries, build-words, words-are, tabled, table-front}
 use Rattle.listing.proofs.sheets.list_shaped.Statement.{statement}
 use Rattle.listing.proofs.sheets.list_shaped.Tie as tie
 
