@@ -1,22 +1,21 @@
 -- The listing of a sheet by its refusal table: after the reader. Assumes nothing.
 use Prim.Native.Nat.{ℕ, _≤_}
 use mathlib.Core.Path.{_≡_, refl, sym, ap, ap₂, _∙_}
-use mathlib.Core.List.{List, [], _∷_, _++_}
+use mathlib.Core.List.{List}
 use native.Mathlib.Omega.{arith}
 use lib.ListN.{length, take}
 use Rattle.words.specs.Pieces.{write}
-use Rattle.words.specs.Rows.{Row, Weighed, clear, refused, weigh, settle}
+use Rattle.words.specs.Rows.{Weighed, clear, refused, weigh, settle}
 use Rattle.words.proofs.Rows.{weigh-append, weigh-front, weigh-passed, weigh-none, weigh-clear-front, refused-not-clear}
 use Rattle.request.specs.declared.Request.{Request}
 use Rattle.request.specs.declared.Refusal.{Refusal}
-use Rattle.request.specs.Request.{Req, asked}
+use Rattle.request.specs.Request.{asked}
 use Rattle.request.proofs.Tests.{lt-fails}
 use Rattle.sheet.specs.declared.Outcome.the-variants as outcome
 use Rattle.sheet.specs.Grammar.{sheetOf}
 use Rattle.sheet.specs.Reader as reader
 use Rattle.sheet.proofs.Clear.{told-clear}
 use Rattle.sheet.proofs.Told.{read-told, read-refused-told}
-use Rattle.listing.specs.declared.Listed.{Listed}
 use Rattle.listing.specs.declared.Listed.the-variants as listed
 use Rattle.listing.specs.List.{asks, listingOf, requestRows, listRows, answer, requestListed, requestAfter, listedOf, listingAfter}
 use Rattle.listing.proofs.Rooms.{words-few}
@@ -57,6 +56,7 @@ module _ (s buffer : List ℕ) (room : length buffer ≡ 2560) where
       unfolding requestListed listedOf listRows
       sheet-listed = sym (ap (λ (x : Weighed). answer x (length (listingOf (asks s)))) (weigh-append (reader.formRows s) (requestRows (asks s) (length bytes)) form-clear))
 
+      -- so do its bytes
       pub sheet-after : requestAfter (asks s) bytes ≡ listingAfter s bytes
       unfolding requestAfter listingAfter listRows
       sheet-after = sym (ap (λ (x : Weighed). settle x (write bytes 0 (listingOf (asks s))) bytes) (weigh-append (reader.formRows s) (requestRows (asks s) (length bytes)) form-clear))

@@ -1,19 +1,16 @@
 -- How long a listing can be: from 12,288 label words every listing is under 53,000 bytes. Assumes nothing.
-use Prim.Native.Nat.{ℕ, zero, suc, _+_, _*_, _≤_, _<_, zero-le}
+use Prim.Native.Nat.{ℕ, _+_, _*_, _≤_, _<_, zero-le}
 use mathlib.Core.Path.{_≡_, refl, sym, ap, _∙_, subst}
 use mathlib.Core.Logic.{⊎-elim}
 use mathlib.Core.List.{List, [], _∷_, _++_}
-use native.Mathlib.Nat.{suc-mul, add-mul, one-mul, mul-assoc, mul-comm, mul-le-mul, mul-le-mul-right, le-refl, le-trans, le-of-eq}
+use native.Mathlib.Nat.{suc-mul, add-mul, one-mul, mul-assoc, mul-comm, mul-le-mul-right, le-trans, le-of-eq}
 use native.Mathlib.Omega.{arith}
-use lib.ListN.{length, getD}
-use lib.Dec.{T}
-use Rattle.words.specs.Loops.{total}
+use lib.ListN.{length}
 use Rattle.words.specs.Pieces.{join}
 use Rattle.words.specs.Bounds.{AtMost}
 use Rattle.words.proofs.Loops.{total-le}
 use Rattle.words.proofs.Pieces.{join-total}
-use Rattle.words.proofs.Bounds.{atMost-at, atMost-drop, atMost-more}
-use Rattle.words.proofs.Choices.{cond-cases}
+use Rattle.words.proofs.Bounds.{atMost-at, atMost-drop}
 use Rattle.text.specs.Number.{digits}
 use Rattle.text.specs.Line.{partedWidth, lineText}
 use Rattle.text.proofs.Fields.{lt-or-le}
@@ -25,19 +22,24 @@ use Rattle.listing.proofs.Lines.{line-wide}
 
 -- ---- digits
 
+-- below 10
 one-digit : (n : ℕ) → n < 10 → length (digits n) ≤ 1
 one-digit n h = omega (arith, width-small n h)
 
+-- below 100
 pub two-digits : (n : ℕ) → n < 100 → length (digits n) ≤ 2
 two-digits n h = width-within 1 10 one-digit n (omega arith)
 
+-- below 1,000
 pub three-digits : (n : ℕ) → n < 1000 → length (digits n) ≤ 3
 three-digits n h = width-within 2 100 two-digits n (omega arith)
 
+-- below 100,000,000
 pub eight-digits : (n : ℕ) → n < 100000000 → length (digits n) ≤ 8
 eight-digits n h =
     width-within 7 10000000 (width-within 6 1000000 (width-within 5 100000 (width-within 4 10000 (width-within 3 1000 three-digits)))) n (omega arith)
 
+-- 0 has one
 pub no-digits : (n : ℕ) → n ≤ 0 → length (digits n) ≤ 1
 no-digits n h = one-digit n (omega arith)
 

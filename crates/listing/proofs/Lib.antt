@@ -9,3 +9,5 @@ pub mod Requests
 pub mod FromSheets
 pub mod Lengths
 pub mod Suffices
+pub mod Example
+pub mod Answers

@@ -1,8 +1,8 @@
 -- The lines of a listing: a label's, where it is filled and where it is empty, and how long they are. Assumes nothing.
-use Prim.Native.Nat.{ℕ, _+_, _*_, _≤_, _<_}
+use Prim.Native.Nat.{ℕ, _+_, _≤_, _<_}
 use mathlib.Core.Path.{_≡_, refl, sym, ap, _∙_}
-use mathlib.Core.Bool.{Bool, true, false, cond, not}
-use mathlib.Core.List.{List, [], _∷_, _++_}
+use mathlib.Core.Bool.{Bool, true, false, not}
+use mathlib.Core.List.{List, [], _∷_}
 use native.Mathlib.Omega.{arith}
 use lib.ListN.{length, take, length-append}
 use Rattle.words.specs.Pieces.{write}
@@ -13,7 +13,6 @@ use Rattle.request.specs.declared.Request.{Request}
 use Rattle.request.specs.Request.{Req, asked}
 use Rattle.sheet.specs.Grammar.{tab}
 use Rattle.rounds.specs.Label.{costs, filled}
-use Rattle.rounds.specs.Rounds.{bit}
 use Rattle.route.specs.Chain.{chain}
 use Rattle.route.specs.Answer.{arcsOf}
 use Rattle.listing.specs.Print.{Tabled}
@@ -30,6 +29,7 @@ pub not-true : (b : Bool) → not b ≡ true → b ≡ false
 not-true true e = sym e
 not-true false e = refl
 
+-- and the other way round
 pub not-false : (b : Bool) → not b ≡ false → b ≡ true
 not-false true e = refl
 not-false false e = sym e
@@ -47,6 +47,7 @@ module _ (R : Req) (W : List ℕ) (v c : ℕ) where
 
 -- a label has at most 68 numbers: the node, three costs, the arc count and 63 arcs
 module _ (q : Request) (arcs W : List ℕ) (C : ℕ) (ok : Tabled (asked q arcs) W C) (v c : ℕ) (hv : v < q .nodes) (hc : c < C) where
+  -- the costs are d, and the arcs at most K
   pub few-numbers : length (labelNumbers (asked q arcs) W v c) ≤ 68
   unfolding labelNumbers lastRoute
   few-numbers =

@@ -1,11 +1,10 @@
 -- The numbers of a label's line, stored part by part: the node, the costs, the arcs behind them, and the arc count between. Assumes nothing.
-use Prim.Native.Nat.{ℕ, zero, suc, _+_, _-_, _≤_, _<_}
+use Prim.Native.Nat.{ℕ, zero, suc, _+_, _-_, _≤_}
 use mathlib.Core.Path.{_≡_, refl, sym, ap, _∙_}
 use mathlib.Core.List.{List, [], _∷_, _++_}
-use native.Mathlib.Nat.{add-zero, zero-add}
-use native.Mathlib.Numerals.{add-one}
+use native.Mathlib.Nat.{add-zero}
 use native.Mathlib.Omega.{arith}
-use lib.ListN.{length, take, drop, set, length-append, length-set}
+use lib.ListN.{length, take, drop, set, length-set}
 use Rattle.words.specs.Pieces.{part, write}
 use Rattle.words.proofs.Writes.{length-part, length-write, lent, write-nest, write-append}
 use Rattle.text.proofs.Fields.{set-write, write-none}

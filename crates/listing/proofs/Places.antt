@@ -1,7 +1,6 @@
 -- Where the labels of the last layer stand in a table's words: nothing wraps, and every place is inside. Assumes nothing.
 use Prim.Native.Nat.{ℕ, _+_, _-_, _*_, _≤_, _<_}
 use mathlib.Core.Path.{_≡_, refl, sym, ap, _∙_}
-use mathlib.Core.Bool.{Bool}
 use mathlib.Core.List.{List}
 use native.Mathlib.Nat.{mul-le-mul, mul-assoc, add-mul, one-mul, add-zero}
 use native.Mathlib.Omega.{arith}
@@ -11,7 +10,7 @@ use Rattle.words.specs.Pieces.{part, at}
 use Rattle.words.proofs.Pieces.{piece-end, piece-word}
 use Rattle.words.proofs.Writes.{length-part, part-part}
 use Rattle.request.specs.declared.Request.{Request}
-use Rattle.request.specs.Request.{Req, asked, width}
+use Rattle.request.specs.Request.{asked}
 use Rattle.request.specs.Shape.{cells, labelCount}
 use Rattle.request.proofs.Answers.{cells-few}
 use Rattle.rounds.specs.Label.{costs, step, filled}

@@ -1,8 +1,8 @@
 -- The lister's own bytes: the listing of a table of at most 12,288 words is under 53,000 bytes, so that many bytes suffice. Assumes nothing.
 use Prim.Native.Nat.{ℕ, _+_, _*_, _≤_, _<_, zero-le}
-use mathlib.Core.Path.{_≡_, refl, sym, ap, _∙_, subst}
+use mathlib.Core.Path.{_≡_, refl, ap, _∙_, subst}
 use mathlib.Core.Logic.{⊎-elim}
-use mathlib.Core.List.{List, [], _∷_, _++_}
+use mathlib.Core.List.{List, [], _∷_}
 use native.Mathlib.Nat.{le-refl, le-trans, le-of-eq, mul-assoc, mul-le-mul}
 use native.Mathlib.Omega.{arith}
 use lib.ListN.{length, getD, List·getD-eq-default}
@@ -19,7 +19,7 @@ use Rattle.text.proofs.Fields.{lt-or-le}
 use Rattle.text.proofs.Digits.{width-word}
 use Rattle.request.specs.declared.Request.{Request}
 use Rattle.request.specs.Request.{Req, asked, width, arcCount}
-use Rattle.request.specs.Shape.{largest, cells, labelCount}
+use Rattle.request.specs.Shape.{cells, labelCount}
 use Rattle.request.specs.Accepted.{Accepted}
 use Rattle.request.specs.Answer.{shapeOf}
 use Rattle.request.specs.Rows.{rows}
@@ -34,7 +34,7 @@ use Rattle.rounds.proofs.Costs.{Within, layer-costs}
 use Rattle.rounds.proofs.Tries.{bit-le}
 use Rattle.route.specs.Walked.{Fronts}
 use Rattle.route.proofs.Tables.{label-in}
-use Rattle.listing.specs.Listing.{coverWord, lastLabel, lastRoute, filledAt, filledOf, filledLast, labelNumbers, labelLine, nodeLines, labelLines, coverLine, listingText}
+use Rattle.listing.specs.Listing.{coverWord, lastLabel, lastRoute, filledAt, filledOf, filledLast, labelNumbers, labelLine, nodeLines, labelLines, coverLine}
 use Rattle.listing.specs.Print.{Tabled}
 use Rattle.listing.specs.List.{asks, listingOf, requestRows, listRows}
 use Rattle.listing.proofs.Chains.{chain-short, chain-arcs}
@@ -56,12 +56,13 @@ module _ (q : Request) (arcs : List ℕ) (ok : Accepted (asked q arcs)) where
   is-table : Tabled R W (cells R)
   is-table = tabled q arcs ok (shapeOf R) refl
 
-  front : Fronts R W
+  -- in front of themselves
+  pub front : Fronts (asked q arcs) (table (asked q arcs))
   unfolding Fronts
   front = take-length W
 
   -- the label of the last layer
-  last-is : (v c : ℕ) → v < q .nodes → c < cells R → lastLabel R W v c ≡ labelAt R (q .hops) v c
+  pub last-is : (v c : ℕ) → v < q .nodes → c < cells (asked q arcs) → lastLabel (asked q arcs) (table (asked q arcs)) v c ≡ labelAt (asked q arcs) (q .hops) v c
   unfolding lastLabel
   last-is v c hv hc = label-in R (accepted-regular R ok) W front (q .hops) v c (le-refl (q .hops)) hv hc
 
@@ -70,6 +71,7 @@ module _ (q : Request) (arcs : List ℕ) (ok : Accepted (asked q arcs)) where
   unfolding AtMost Within
   costs-most v c hv hc t j = ⊎-elim inside beyond (lt-or-le j (q .criteria))
     where
+      -- of the d costs
       inside : j < q .criteria → getD (costs R (lastLabel R W v c)) j 0 ≤ q .hops * 1000000
       inside l =
           let e = last-is v c hv hc in
@@ -77,6 +79,7 @@ module _ (q : Request) (arcs : List ℕ) (ok : Accepted (asked q arcs)) where
           let m = mul-le-mul (le-refl (q .hops)) (largest-le R (accepted-small R ok) j l) in
           omega (arith, ap (λ (x : List ℕ). getD (costs R x) j 0) e, w, m)
 
+      -- past them
       beyond : q .criteria ≤ j → getD (costs R (lastLabel R W v c)) j 0 ≤ q .hops * 1000000
       beyond g =
           let n = costs-long q arcs W (cells R) is-table v c hv hc in
@@ -94,15 +97,19 @@ module _ (q : Request) (arcs : List ℕ) (ok : Accepted (asked q arcs)) where
         (omega (arith, accepted-small R ok .nodes-few)) (omega (arith, arcs-short, accepted-small R ok .hops-few)) (costs-width t) arcs-width)
         (λ _. zero-le)
       where
+        -- at most K arcs
         arcs-short : length (lastRoute R W v c) ≤ q .hops
         arcs-short = chain-short R W (q .hops) v c
 
+        -- arc numbers have at most three digits
         three : (n : ℕ) → n ≤ arcCount R → length (digits n) ≤ 3
         three n l = three-digits n (omega (arith, accepted-small R ok .arcs-few))
 
+        -- so the arcs take at most 4 bytes for each hop
         arcs-width : partedWidth (lastRoute R W v c) ≤ q .hops * 4
         arcs-width = omega (arith, parted-few (arcCount R) 3 three (lastRoute R W v c) (chain-arcs R W (q .hops) v c), arcs-short)
 
+        -- and the costs at most w + 1 bytes each
         costs-width : T (filled R (lastLabel R W v c)) → partedWidth (costs R (lastLabel R W v c)) ≤ q .criteria * (w + 1)
         costs-width t =
             subst (λ (n : ℕ). partedWidth (costs R (lastLabel R W v c)) ≤ n * (w + 1)) (costs-long q arcs W (cells R) is-table v c hv hc)
@@ -122,11 +129,13 @@ module _ (q : Request) (arcs : List ℕ) (ok : Accepted (asked q arcs)) where
   unfolding labelCount
   labels-few h = ⊎-elim none some (lt-or-le (q .hops) 1)
     where
+      -- with no hop costs are 0
       none : q .hops < 1 → length (labelLines R W) ≤ 52900
       none l =
           let z : q .hops ≡ 0 = omega arith in
           omega (arith, lines-few 1 (λ n g. no-digits n (omega arith)), mul-assoc (q .nodes) (cells R) (12 + q .criteria * 2 + q .hops * 4), no-hops (q .nodes * cells R) (q .hops) (q .criteria) (accepted-small R ok .two) (accepted-small R ok .three) z h)
 
+      -- else they have at most eight digits
       some : 1 ≤ q .hops → length (labelLines R W) ≤ 52900
       some l =
           omega (arith, lines-few 8 (λ n g. eight-digits n (omega (arith, g, accepted-small R ok .hops-few))), mul-assoc (q .nodes) (cells R) (12 + q .criteria * 9 + q .hops * 4), some-hops (q .nodes * cells R) (q .hops) (q .criteria) (accepted-small R ok .two) (accepted-small R ok .three) l h)

@@ -9,7 +9,6 @@ use Rattle.words.specs.Rows.{Row, Weighed, clear, refused, weigh, settle}
 use Rattle.request.specs.Request.{Req, asked, width}
 use Rattle.request.specs.Shape.{labelCount}
 use Rattle.request.specs.Rows.{rows}
-use Rattle.request.specs.declared.Refusal.{Refusal}
 use Rattle.sheet.specs.Grammar.{sheetOf}
 use Rattle.sheet.specs.Reader.{wordsOf, requestOf, formRows}
 use Rattle.rounds.specs.Rounds.{table, tries}

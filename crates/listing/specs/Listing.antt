@@ -1,5 +1,5 @@
 -- Document 01, "The lister": the bytes of a listing, from a request, its table's words and its tries. Assumes nothing.
-use Prim.Native.Nat.{ℕ, _+_}
+use Prim.Native.Nat.{ℕ}
 use mathlib.Core.Bool.{cond}
 use mathlib.Core.List.{List, [], _∷_, _++_}
 use lib.ListN.{length}

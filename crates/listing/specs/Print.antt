@@ -1,8 +1,8 @@
 -- The printing of a text into lent bytes, where they are enough for it, and what the printing of a built table asks. Assumes nothing.
-use Prim.Native.Nat.{ℕ, _*_, _<_}
+use Prim.Native.Nat.{ℕ, _*_}
 use mathlib.Core.Bool.{cond}
 use mathlib.Core.Path.{_≡_}
-use mathlib.Core.List.{List, []}
+use mathlib.Core.List.{List}
 use lib.ListN.{length}
 use lib.Dec.{ltb}
 use Rattle.words.specs.Pieces.{write}

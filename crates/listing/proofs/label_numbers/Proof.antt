@@ -1,6 +1,6 @@
 -- `label_numbers`: the node, the costs, the arcs behind them, and the arc count between. Assumes nothing.
-use Prim.Native.Nat.{ℕ, _+_, _-_, _*_, _≤_}
-use mathlib.Core.Path.{_≡_, refl, sym, ap, _∙_}
+use Prim.Native.Nat.{ℕ, _+_, _-_, _≤_}
+use mathlib.Core.Path.{_≡_, sym, ap, _∙_}
 use mathlib.Core.List.{List, _∷_, _++_}
 use native.Mathlib.Omega.{arith}
 use lib.ListN.{length, set, length-set, length-append}
@@ -9,9 +9,8 @@ use Rattle.words.specs.Pieces.{part, write}
 use Rattle.words.proofs.Writes.{length-part}
 use Rattle.request.specs.Request.{Req, asked, reach}
 use Rattle.rounds.specs.Label.{costs}
-use Rattle.route.specs.Chain.{Chain, chain}
+use Rattle.route.specs.Chain.{chain}
 use Rattle.route.specs.Answer.{arcsOf}
-use Rattle.route.specs.declared.Trail.{Trail}
 use Rattle.listing.specs.Listing.{lastLabel, lastRoute, labelNumbers}
 use Rattle.listing.specs.Print.{countOf}
 use Rattle.listing.proofs.Chains.{count-is, chain-short}
@@ -52,15 +51,18 @@ module _ (c : tie.After-copy) where
       let a = s .args in
       c .copy .ensures ∙ costs-part (a .request) (a .arcs .now) (a .labels .now) (a .cells) (s .pre .0) (a .node) (a .cell) (s .pre .1 .0) (s .pre .1 .1) _ (c .before .before .before .label-at .ensures)
 
+  -- d of them
   cost-count : length (costs R-of (lastLabel R-of W-of (start-of .args .node) (start-of .args .cell))) ≡ start-of .args .request .criteria
   cost-count =
       let s = start-of in
       let a = s .args in
       costs-long (a .request) (a .arcs .now) (a .labels .now) (a .cells) (s .pre .0) (a .node) (a .cell) (s .pre .1 .0) (s .pre .1 .1)
 
+  -- so many were stored
   size : length costs-of ≡ start-of .args .request .criteria
   size = ap length stored ∙ cost-count
 
+  -- the words are as many as before
   long : length (numbers.with-costs (start-of .args .numbers .now) (start-of .args .node) (start-of .args .request .criteria) costs-of) ≡ 68
   long = numbers.costs-long (start-of .args .numbers .now) (start-of .args .node) (start-of .args .request .criteria) costs-of (start-of .pre .1 .2) (start-of .pre .0 .small .three) size
 
@@ -83,12 +85,15 @@ module _ (c : tie.After-follow) where
   abbrev arcs-of : List ℕ
   arcs-of = arcsOf (chain (R-of copied) (W-of copied) (R-of copied .hops) (start-of copied .args .node) (start-of copied .args .cell))
 
+  -- at most 63 arcs
   few : length arcs-of ≤ 63
   few = omega (arith, chain-short (R-of copied) (W-of copied) (R-of copied .hops) (start-of copied .args .node) (start-of copied .args .cell), start-of copied .pre .0 .small .hops-few)
 
+  -- the words are as many as before
   long-still : length (numbers.with-arcs (start-of copied .args .numbers .now) (start-of copied .args .node) (start-of copied .args .request .criteria) (costs-of copied) (start-of copied .pre .1 .2) (start-of copied .pre .0 .small .three) (size copied) arcs-of (c .follow .last .1 .1 .1 .1 .1 .1 .1 .0) few (c .follow .ensures .1)) ≡ 68
   long-still = numbers.arcs-long (start-of copied .args .numbers .now) (start-of copied .args .node) (start-of copied .args .request .criteria) (costs-of copied) (start-of copied .pre .1 .2) (start-of copied .pre .0 .small .three) (size copied) arcs-of (c .follow .last .1 .1 .1 .1 .1 .1 .1 .0) few (c .follow .ensures .1)
 
+  -- and still are once the count is stored
   long-set : (n : ℕ) → length (set (numbers.with-arcs (start-of copied .args .numbers .now) (start-of copied .args .node) (start-of copied .args .request .criteria) (costs-of copied) (start-of copied .pre .1 .2) (start-of copied .pre .0 .small .three) (size copied) arcs-of (c .follow .last .1 .1 .1 .1 .1 .1 .1 .0) few (c .follow .ensures .1)) (start-of copied .args .request .criteria + 1) n) ≡ length (start-of copied .args .numbers .now)
   long-set n = simp length-set (long-still ∙ sym (start-of copied .pre .1 .2))
 

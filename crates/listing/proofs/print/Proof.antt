@@ -1,17 +1,17 @@
 -- `print`: the length first, and then the cover and the labels. Assumes nothing.
 use Prim.Native.Nat.{ℕ, _+_, _≤_}
-use mathlib.Core.Path.{_≡_, refl, sym, ap, _∙_}
+use mathlib.Core.Path.{_≡_, ap, _∙_}
 use mathlib.Core.List.{List, [], _∷_}
 use native.Mathlib.Omega.{arith}
 use native.Mathlib.Nat.{zero-add}
 use lib.ListN.{length}
 use borrow.Author.Needs.{needs}
 use Rattle.words.specs.Pieces.{write}
-use Rattle.text.specs.Line.{partedWidth, lineText}
+use Rattle.text.specs.Line.{lineText}
 use Rattle.request.specs.Request.{Req, asked}
 use Rattle.sheet.specs.Grammar.{tab}
 use Rattle.listing.specs.declared.Printed.the-variants as printed
-use Rattle.listing.specs.Listing.{coverWord, filledLast, coverLine, labelLines, listingText}
+use Rattle.listing.specs.Listing.{coverWord, coverLine, listingText}
 use Rattle.listing.proofs.Lines.{line-wide}
 use Rattle.listing.proofs.Prints.{prints-longer, prints-text, listing-length, listing-put}
 use Rattle.listing.proofs.print.Statement.{statement}
@@ -39,9 +39,11 @@ module _ (c : tie.After-widths) where
   unfolding coverLine
   cover-is = ap (λ (n : ℕ). lineText tab coverWord (n ∷ start-of .args .tries ∷ [])) (c .before .before .measure-lines .ensures .0)
 
+  -- the length of its line
   cover-long : 6 + c .widths .result ≡ length (coverLine R-of W-of (start-of .args .tries))
   cover-long = omega (arith, c .widths .ensures .0, line-wide coverWord (count-of ∷ start-of .args .tries ∷ []), ap length cover-is)
 
+  -- and with the labels, of the whole listing
   long : 6 + c .widths .result + c .before .before .measure-lines .result .bytes ≡ length listing-of
   long = omega (arith, cover-long, c .before .before .measure-lines .ensures .1 .0, listing-length R-of W-of (start-of .args .tries))
 
@@ -82,9 +84,11 @@ module _ (c : tie.After-put-line) where
   abbrev measured : tie.After-widths
   measured = c .before .before .before .before .before .before
 
+  -- the labels begin where it ends
   ends : c .put-line .result ≡ length (coverLine (R-of measured) (W-of measured) (start-of measured .args .tries))
   ends = c .put-line .ensures .0 ∙ zero-add _ ∙ ap length (cover-is measured)
 
+  -- the whole listing fits
   fits : length (listing-of measured) ≤ length (start-of measured .args .listing .now)
   fits = omega (arith, long measured, c .before .before .before .before .if1 .left)
 

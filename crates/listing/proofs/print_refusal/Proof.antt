@@ -1,14 +1,12 @@
 -- `print_refusal`: eight bytes around the numbers, and then the line. Assumes nothing.
-use Prim.Native.Nat.{ℕ, _+_, _≤_}
-use mathlib.Core.Path.{_≡_, refl, sym, ap, _∙_}
+use Prim.Native.Nat.{ℕ, _+_}
+use mathlib.Core.Path.{_≡_, ap, _∙_}
 use mathlib.Core.List.{List, [], _∷_}
 use native.Mathlib.Omega.{arith}
 use lib.ListN.{length}
 use borrow.Author.Needs.{needs}
-use Rattle.listing.specs.declared.Printed.{Printed}
 use Rattle.listing.specs.declared.Printed.the-variants as printed
 use Rattle.listing.specs.Listing.{refusedWord, refusalLine}
-use Rattle.listing.specs.Print.{printedOf}
 use Rattle.listing.proofs.Lines.{line-wide}
 use Rattle.listing.proofs.Prints.{prints-longer, prints-text}
 use Rattle.listing.proofs.print_refusal.Statement.{statement}
@@ -22,6 +20,7 @@ module _ (c : tie.After-widths) where
   abbrev line-of : List ℕ
   line-of = refusalLine (start-of .args .refusal .number) (start-of .args .refusal .place)
 
+  -- the word, the numbers and the LF
   long : 8 + c .widths .result ≡ length line-of
   unfolding refusalLine
   long = let r = start-of .args .refusal in omega (arith, c .widths .ensures .0, line-wide refusedWord (r .number ∷ r .place ∷ []))

@@ -1,5 +1,5 @@
 -- `answer_of`: each case by itself. Assumes nothing.
-use mathlib.Core.Path.{_≡_, refl, sym, ap, _∙_}
+use mathlib.Core.Path.{sym, ap}
 use borrow.Author.Needs.{needs}
 use Rattle.listing.specs.List.{printedAs}
 use Rattle.listing.proofs.sheets.answer_of.Statement.{statement}

@@ -1,13 +1,12 @@
 -- `list`: a refusal of the reader, or the listing of the request that was read. Assumes nothing.
 use Prim.Native.Nat.{ℕ, _≤_}
-use mathlib.Core.Path.{_≡_, refl, sym, ap, _∙_}
+use mathlib.Core.Path.{_≡_, sym, ap, _∙_}
 use mathlib.Core.List.{List}
 use native.Mathlib.Omega.{arith}
 use lib.ListN.{length, take, replicate, length-replicate}
 use lib.Seq.{length-take-le}
 use borrow.Author.Needs.{needs}
 use Rattle.request.specs.Request.{Req, asked}
-use Rattle.sheet.specs.declared.Outcome.{Outcome}
 use Rattle.sheet.specs.declared.Outcome.the-variants as outcome
 use Rattle.sheet.specs.Reader as reader
 use Rattle.listing.specs.List.{asks, requestListed, requestAfter}
@@ -24,21 +23,26 @@ module _ (c : tie.After-read) where
   abbrev bytes-of : List ℕ
   bytes-of = start-of .args .sheet .now
 
+  -- so many words were lent
   room : length (replicate {A = ℕ} 2560 0) ≡ 2560
   room = length-replicate {A = ℕ} 2560 0
 
   -- ---- where it read a sheet
 
   module _ (n : ℕ) (e : c .read .result .outcome ≡ outcome.Sheet n) where
+    -- what it says
     told : reader.said (outcome.Sheet n) ≡ reader.readSays bytes-of (length (replicate {A = ℕ} 2560 0))
     told = sym (ap reader.said e) ∙ c .read .ensures .0
 
+    -- no more words than were lent
     few : n ≤ 2560
     few = sheet-words bytes-of (replicate 2560 0) room (start-of .args .listing .now) n told
 
+    -- which are as many as before
     long : length (c .read .last .1 .0) ≡ 2560
     long = c .read .kept .1 .0 ∙ room
 
+    -- the request that was read is the one that the sheet asks
     is-asked : asked (c .read .result .request) (take n (c .read .last .1 .0)) ≡ asks bytes-of
     is-asked = sheet-asks bytes-of (replicate 2560 0) room (start-of .args .listing .now) n told _ _ (c .read .ensures .1 .0) (c .read .ensures .1 .1)
 

@@ -1,9 +1,9 @@
 -- `list_request`: a refusal of the check, or the listing of the shape. Assumes nothing.
-use mathlib.Core.Path.{_≡_, sym, ap, _∙_}
+use mathlib.Core.Path.{sym, _∙_}
 use borrow.Author.Needs.{needs}
 use Rattle.request.specs.Request.{asked}
 use Rattle.request.proofs.Answers.{refused-is, shaped-is}
-use Rattle.listing.proofs.Requests.{Lists, lists-early}
+use Rattle.listing.proofs.Requests.{lists-early}
 use Rattle.listing.proofs.sheets.list_request.Statement.{statement}
 use Rattle.listing.proofs.sheets.list_request.Tie as tie
 

@@ -1,6 +1,6 @@
 -- `list_shaped`: the build's refusal, or the table's listing. Assumes nothing.
-use Prim.Native.Nat.{ℕ, _+_, _*_, _≤_, _<_}
-use mathlib.Core.Path.{_≡_, refl, sym, ap, ap₂, _∙_, subst}
+use Prim.Native.Nat.{ℕ, _+_, _*_, _≤_}
+use mathlib.Core.Path.{_≡_, sym, ap, ap₂, _∙_, subst}
 use mathlib.Core.List.{List}
 use native.Mathlib.Omega.{arith}
 use lib.ListN.{length, take, replicate, length-replicate}
@@ -8,17 +8,15 @@ use lib.Seq.{length-take-le}
 use borrow.Author.Needs.{needs}
 use Rattle.request.specs.Request.{Req, asked, width}
 use Rattle.request.specs.Shape.{ladders, labelCount}
-use Rattle.request.specs.declared.Refusal.{Refusal}
 use Rattle.rounds.specs.Rounds.{table, tries}
 use Rattle.table.specs.declared.Built.the-variants as built
-use Rattle.table.specs.Build.{builtOf, labelsAfter}
+use Rattle.table.specs.Build.{builtOf}
 use Rattle.listing.specs.declared.Listed.the-variants as listed
-use Rattle.listing.specs.declared.Printed.{Printed}
 use Rattle.listing.specs.Listing.{listingText}
 use Rattle.listing.specs.Print.{printedOf, bytesAfter, Tabled}
-use Rattle.listing.specs.List.{listingOf, printedAs}
+use Rattle.listing.specs.List.{listingOf}
 use Rattle.listing.proofs.Rooms.{ladders-few, tries-few}
-use Rattle.listing.proofs.Requests.{Lists, lists-many, lists-printed, build-refused, build-tries, build-words, words-are, tabled, table-front}
+use Rattle.listing.proofs.Requests.{lists-many, lists-printed, build-refused, build-tries, build-words, words-are, tabled, table-front}
 use Rattle.listing.proofs.sheets.list_shaped.Statement.{statement}
 use Rattle.listing.proofs.sheets.list_shaped.Tie as tie
 
@@ -40,24 +38,29 @@ module _ (c : tie.After-build) where
   enough : length (ladders R-of) ≤ length (replicate {A = ℕ} 8194 0)
   enough = omega (arith, ladders-few (start-of .args .request) (start-of .args .arcs .now) (start-of .pre .0), length-replicate {A = ℕ} 8194 0)
 
+  -- the answer, with the rooms as numbers
   answered : c .build .result ≡ builtOf R-of (length (replicate {A = ℕ} 8194 0)) 12288
   answered = c .build .ensures .0 ∙ ap (builtOf R-of (length (replicate {A = ℕ} 8194 0))) (length-replicate {A = ℕ} 12288 0)
 
   -- ---- where it counted tries
 
   module _ (t : ℕ) (e : c .build .result ≡ built.Tries t) where
+    -- the table fits
     fits : labelCount R-of * width R-of ≤ 12288
     fits = build-tries R-of (start-of .pre .0) (length (replicate {A = ℕ} 8194 0)) enough t (sym e ∙ answered) .0
 
+    -- the tries are the rounds'
     counted : t ≡ tries R-of (R-of .hops)
     counted = build-tries R-of (start-of .pre .0) (length (replicate {A = ℕ} 8194 0)) enough t (sym e ∙ answered) .1
 
+    -- and fit a word
     small : t ≤ 536870912
     small = omega (arith, counted, tries-few R-of (whole .regular) (whole .small) (whole .fits))
       where
         whole : Tabled R-of (table R-of) (start-of .args .shape .cells)
         whole = tabled (start-of .args .request) (start-of .args .arcs .now) (start-of .pre .0) (start-of .args .shape) (start-of .pre .1)
 
+    -- so do the table's words
     few : start-of .args .shape .labels * (start-of .args .request .criteria + 2) ≤ 12288
     few = omega (arith, fits, words-are (start-of .args .request) (start-of .args .arcs .now) (start-of .pre .0) (start-of .args .shape) (start-of .pre .1))
 
@@ -67,6 +70,7 @@ module _ (c : tie.After-build) where
         table-front (start-of .args .request) (start-of .args .arcs .now) (start-of .pre .0) (start-of .args .shape) (start-of .pre .1) (replicate 12288 0) _ (length-replicate {A = ℕ} 12288 0) fits
         (c .build .ensures .1 .1 ∙ build-words R-of (start-of .pre .0) (length (replicate {A = ℕ} 8194 0)) enough (replicate 12288 0) (length-replicate {A = ℕ} 12288 0) fits)
 
+    -- the labels are as many as before
     long : length (c .build .last .1 .1 .1 .0) ≡ 12288
     long = c .build .kept .1 .1 .1 .0 ∙ length-replicate {A = ℕ} 12288 0
 
