@@ -1,10 +1,26 @@
 -- The hand numbers, computed from the definitions. Assumes nothing.
 use mathlib.Core.Path.{refl}
-use Rattle.words.specs.Loops.{upTo}
-use Rattle.words.specs.Pieces.{join}
-use Rattle.fences.specs.Fence.{fence, fences, passed, position}
-use Rattle.demands.specs.HandNumbers.{HandNumbers}
+use Rattle.words.specs.Loops.{upTo, total}
+use Rattle.words.specs.Pieces.{write, at, put, join}
+use Rattle.words.specs.Radix.{volume, radix}
+use Rattle.fences.specs.Fence as fence
+use Rattle.request.specs.Request.{lower, ratioP, ratioQ, arcCount, arc, tail, head, arcCosts, reach}
+use Rattle.request.specs.Shape.{largestOf, largest, top, buckets, position, cells, cell}
+use Rattle.rounds.specs.Label.{costs, step, from, filled, empty, start, kept, sum, candidate, came, wins}
+use Rattle.rounds.specs.Rounds.{block, blank, startBlock, startLayer, keepCell, keepBlock, keepAll, offer, tryCell, tryArc, arcStep, round, layer, labelOf, labelAt, filledIn, roundTries, tries}
+use Rattle.demands.specs.HandNumbers.{HandNumbers, sheet, loop, equal, held}
 
 pub hand-numbers : HandNumbers
-unfolding upTo join fence fences passed position
-hand-numbers = record { one = refl; two = (refl, refl); three = refl; four = refl }
+unfolding upTo total write at put join volume radix fence.fence fence.fences fence.passed fence.position fence.buckets lower ratioP ratioQ arcCount arc tail head arcCosts reach largestOf largest top buckets position cells cell costs step from filled empty start kept sum candidate came wins block blank startBlock startLayer keepCell keepBlock keepAll offer tryCell tryArc arcStep round layer labelOf labelAt filledIn roundTries tries sheet loop equal held
+hand-numbers = record {
+  one = refl;
+  two = (refl, refl);
+  three = refl;
+  four = refl;
+  five = (refl, refl, refl);
+  six = (refl, refl);
+  seven = (refl, refl);
+  eight = (refl, refl, refl, refl, refl);
+  nine = (refl, refl);
+  ten = refl;
+}

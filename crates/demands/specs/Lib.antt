@@ -1,1 +1,2 @@
 pub mod HandNumbers
+pub mod Demands

@@ -5,3 +5,4 @@ pub mod Start
 pub mod Round
 pub mod Costs
 pub mod Tries
+pub mod Table

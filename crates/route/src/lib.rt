@@ -1,5 +1,25 @@
 // Reading a route back from a label buffer that is not trusted.
+use request::Checked;
 use request::Refusal;
+use request::Request;
+use request::Shape;
+use request::check;
+use words::word;
+ghost use mathlib.Core.Path.{_≡_};
+ghost use mathlib.Core.Bool.{_||_};
+ghost use mathlib.Core.List.{List, [], _∷_};
+ghost use Prim.Native.Nat.{ℕ, _+_, _-_, _*_, _≤_, _<_};
+ghost use lib.ListN.{length, getD, take, drop, replicate};
+ghost use lib.Dec.{leb, ltb};
+ghost use Rattle.words.specs.Pieces.{at, write};
+ghost use Rattle.request.specs.Request.{asked, reach};
+ghost use Rattle.request.specs.Shape as shape;
+ghost use Rattle.request.specs.Accepted.{Accepted, Regular, Small, Fits};
+ghost use Rattle.request.specs.Answer.{shapeOf};
+ghost use Rattle.rounds.specs.Label.{sum};
+ghost use Rattle.route.specs.Chain.{labelIn, same, startHolds, keptHolds, arcHolds, chain};
+ghost use Rattle.route.specs.Links.{Within, linkOf, trailOf};
+ghost use Rattle.route.specs.Answer.{arcsOf, endingOf, costsAfter, routeAfter};
 
 // How a read-back ends: a route with its arc count, an empty cell, a refusal.
 pub enum Ending {
@@ -12,4 +32,350 @@ pub enum Ending {
 pub struct Back {
     pub ending: Ending,
     pub costs: [u32; 3],
+}
+
+// How following a chain ends: its arc count, or the layer in which it breaks.
+pub enum Trail {
+    Whole(u32),
+    Broke(u32),
+}
+
+// Where a label leads: nowhere, since it fails; to the start, which it is; to the same cell of the layer before; by an arc
+// from a node's cell there.
+enum Link {
+    Fails,
+    Ends,
+    Kept,
+    Came(u32, u32, u32),
+}
+
+// Piece k of w words, as much of it as there is.
+fn piece(s: &[u32], k: usize, w: usize) -> &[u32]
+    requires { ⌜ (k ≤ 9007199254740992) × (w ≤ 5) ⌝ }
+    ensures { λ r. ⌜ now r ≡ at w (now (s .entry)) k ⌝ }
+{
+    let n = s.len();
+    let at = k * w;
+    if n <= at {
+        return &s[n..n];
+    }
+    let end = at + w;
+    if n < end {
+        return &s[at..n];
+    }
+    &s[at..end]
+}
+
+// The words of the label of layer i, node v, cell c, as many of them as there are.
+fn label(labels: &[u32], q: Request, cells: u32, i: u32, v: u32, c: u32) -> &[u32]
+    requires { ⌜ Within (q .nodes) (q .criteria) cells i ⌝ }
+    ensures { λ r. ⌜ now r ≡ at (q .criteria + 2) (now (labels .entry)) ((i * q .nodes + v) * cells + c) ⌝ }
+{
+    let node = i as usize * q.nodes as usize + v as usize;
+    let at = node * cells as usize + c as usize;
+    piece(labels, at, q.criteria as usize + 2)
+}
+
+// Whether the d costs of a label are 0.
+fn costs_nothing(l: &[u32], d: usize) -> bool
+    requires { ⌜ d ≤ length (now l) ⌝ }
+    ensures { λ r. ⌜ r ≡ same (take d (now (l .entry))) (replicate d 0) ⌝ }
+{
+    let mut j = 0;
+    while j < d {
+        if l[j] != 0 {
+            return false;
+        }
+        j += 1;
+    }
+    true
+}
+
+// Whether two labels have the same d costs.
+fn same_costs(l: &[u32], reached: &[u32], d: usize) -> bool
+    requires { ⌜ (d ≤ length (now l)) × (d ≤ length (now reached)) ⌝ }
+    ensures { λ r. ⌜ r ≡ same (take d (now (l .entry))) (take d (now (reached .entry))) ⌝ }
+{
+    let mut j = 0;
+    while j < d {
+        if l[j] != reached[j] {
+            return false;
+        }
+        j += 1;
+    }
+    true
+}
+
+// Whether a label's d costs are those of the label reached and the arc's, summed in 64 bits so that nothing wraps.
+fn costs_add_up(l: &[u32], reached: &[u32], arc: &[u32], d: usize) -> bool
+    requires { ⌜ (d ≤ length (now l)) × (d ≤ length (now reached)) × (length (now arc) ≡ d + 2) ⌝ }
+    ensures { λ r. ⌜ r ≡ same (take d (now (l .entry))) (sum (take d (now (reached .entry))) (drop 2 (now (arc .entry)))) ⌝ }
+{
+    let mut j = 0;
+    while j < d {
+        let sum = reached[j] as u64 + arc[j + 2] as u64;
+        if l[j] as u64 != sum {
+            return false;
+        }
+        j += 1;
+    }
+    true
+}
+
+// Whether a label is a start and holds.
+fn start_holds(q: Request, l: &[u32], i: u32, v: u32, c: u32) -> bool
+    requires { ⌜ q .criteria ≤ 3 ⌝ }
+    ensures { λ r. ⌜ ((arcs : List ℕ) → r ≡ startHolds (asked q arcs) i (now (l .entry)) v c) ⌝ }
+{
+    let d = q.criteria as usize;
+    if word(l, d) != 1 {
+        return false;
+    }
+    if i != 0 {
+        return false;
+    }
+    if v != q.source {
+        return false;
+    }
+    if c != 0 {
+        return false;
+    }
+    if word(l, d + 1) != 0 {
+        return false;
+    }
+    costs_nothing(l, d)
+}
+
+// Whether a label is a kept one and holds, where `reached` is the label of its cell in the layer before.
+fn kept_holds(q: Request, l: &[u32], i: u32, reached: &[u32]) -> bool
+    requires { ⌜ q .criteria ≤ 3 ⌝ }
+    ensures { λ r. ⌜ ((arcs : List ℕ) → r ≡ keptHolds (asked q arcs) i (now (l .entry)) (now (reached .entry))) ⌝ }
+{
+    let d = q.criteria as usize;
+    if word(l, d) != 2 {
+        return false;
+    }
+    if i == 0 {
+        return false;
+    }
+    if word(l, d + 1) != 0 {
+        return false;
+    }
+    if word(reached, d) == 0 {
+        return true;
+    }
+    same_costs(l, reached, d)
+}
+
+// Whether a label came by arc a and holds, where `reached` is the label of its cell in the layer before.
+fn arc_holds(
+    q: Request,
+    arcs: &[u32],
+    cells: u32,
+    l: &[u32],
+    i: u32,
+    v: u32,
+    a: u32,
+    reached: &[u32],
+) -> bool
+    requires { ⌜ Regular (asked q (now arcs)) ⌝ }
+    requires { ⌜ (q .criteria ≤ 3) × (cells ≡ shape.cells (asked q (now arcs))) ⌝ }
+    ensures { λ r. ⌜ r ≡ arcHolds (asked q (now (arcs .entry))) i (now (l .entry)) v a (now (reached .entry)) ⌝ }
+{
+    let d = q.criteria as usize;
+    if word(l, d) < 3 {
+        return false;
+    }
+    if i == 0 {
+        return false;
+    }
+    if arcs.len() / (d + 2) <= a as usize {
+        return false;
+    }
+    let arc = piece(arcs, a as usize, d + 2);
+    if word(arc, 1) != v {
+        return false;
+    }
+    if cells <= word(l, d + 1) {
+        return false;
+    }
+    if word(reached, d) == 0 {
+        return true;
+    }
+    costs_add_up(l, reached, arc, d)
+}
+
+// Where the label of layer i, node v, cell c leads.
+fn leads(labels: &[u32], arcs: &[u32], q: Request, cells: u32, i: u32, v: u32, c: u32) -> Link
+    requires { ⌜ Regular (asked q (now arcs)) ⌝ }
+    requires { ⌜ Within (q .nodes) (q .criteria) cells i ⌝ }
+    requires { ⌜ cells ≡ shape.cells (asked q (now arcs)) ⌝ }
+    ensures { λ r. ⌜ r ≡ linkOf (asked q (now (arcs .entry))) (now (labels .entry)) i v c ⌝ }
+{
+    let d = q.criteria as usize;
+    let l = label(labels, q, cells, i, v, c);
+    if start_holds(q, l, i, v, c) {
+        return Link::Ends;
+    }
+    if i == 0 {
+        return Link::Fails;
+    }
+    if kept_holds(q, l, i, label(labels, q, cells, i - 1, v, c)) {
+        return Link::Kept;
+    }
+    let step = word(l, d);
+    if step < 3 {
+        return Link::Fails;
+    }
+    let a = step - 3;
+    let tail = word(piece(arcs, a as usize, d + 2), 0);
+    let from = word(l, d + 1);
+    let reached = label(labels, q, cells, i - 1, tail, from);
+    if arc_holds(q, arcs, cells, l, i, v, a, reached) {
+        return Link::Came(a, tail, from);
+    }
+    Link::Fails
+}
+
+// Follows the chain of a label back to the start and writes its arcs in travel order, or writes nothing where it breaks.
+pub fn follow(
+    labels: &[u32],
+    arcs: &[u32],
+    request: Request,
+    cells: u32,
+    layer: u32,
+    node: u32,
+    cell: u32,
+    route: &mut [u32],
+) -> Trail
+    requires { ⌜ Regular (asked request (now arcs)) ⌝ }
+    requires { ⌜ Small (asked request (now arcs)) ⌝ }
+    requires { ⌜ Fits (asked request (now arcs)) ⌝ }
+    requires { ⌜ (cells ≡ shape.cells (asked request (now arcs))) × (layer ≤ request .hops) × (reach (asked request (now arcs)) ≤ length (now route)) ⌝ }
+    ensures { λ r. ⌜ r ≡ trailOf (chain (asked request (now (arcs .entry))) (now (labels .entry)) layer node cell) ⌝ }
+    ensures { λ _. ⌜ now (route .exit) ≡ write (now (route .entry)) 0 (arcsOf (chain (asked request (now (arcs .entry))) (now (labels .entry)) layer node cell)) ⌝ }
+{
+    let found = leads(labels, arcs, request, cells, layer, node, cell);
+    match found {
+        Link::Fails => Trail::Broke(layer),
+        Link::Ends => Trail::Whole(0),
+        Link::Kept => follow(labels, arcs, request, cells, layer - 1, node, cell, route),
+        Link::Came(a, tail, from) => {
+            let earlier = follow(labels, arcs, request, cells, layer - 1, tail, from, route);
+            match earlier {
+                Trail::Broke(j) => Trail::Broke(j),
+                Trail::Whole(k) => {
+                    route[k as usize] = a;
+                    Trail::Whole(k + 1)
+                }
+            }
+        }
+    }
+}
+
+// A read-back without a route: how it ends, and costs 0.
+fn no_route(ending: Ending) -> Back
+    ensures { λ r. ⌜ (r .ending ≡ ending) × (r .costs ≡ 0 ∷ 0 ∷ 0 ∷ []) ⌝ }
+{
+    Back {
+        ending,
+        costs: [0; 3],
+    }
+}
+
+// A read-back that is refused.
+fn refuse(number: u32, place: u32) -> Back
+    ensures { λ r. ⌜ (r .ending ≡ Ending.Refused (record { number = number; place = place })) × (r .costs ≡ 0 ∷ 0 ∷ 0 ∷ []) ⌝ }
+{
+    no_route(Ending::Refused(Refusal { number, place }))
+}
+
+// Cost j of a label with d criteria, 0 past its last.
+fn cost(l: &[u32], d: usize, j: usize) -> u32
+    ensures { λ r. ⌜ r ≡ getD (take d (now (l .entry))) j 0 ⌝ }
+{
+    if j < d {
+        return word(l, j);
+    }
+    0
+}
+
+// Whether there is no such layer, node or cell.
+fn beyond(q: Request, cells: u32, layer: u32, node: u32, cell: u32) -> bool
+    ensures { λ r. ⌜ r ≡ ltb (q .hops) layer || leb (q .nodes) node || leb cells cell ⌝ }
+{
+    if q.hops < layer {
+        return true;
+    }
+    if q.nodes <= node {
+        return true;
+    }
+    cells <= cell
+}
+
+// The read-back of an accepted request: rows 13 to 16, and then the route.
+fn read_shaped(
+    request: Request,
+    arcs: &[u32],
+    labels: &[u32],
+    shape: Shape,
+    layer: u32,
+    node: u32,
+    cell: u32,
+    route: &mut [u32],
+) -> Back
+    requires { ⌜ (Accepted (asked request (now arcs))) × (shape ≡ shapeOf (asked request (now arcs))) ⌝ }
+    ensures { λ r. ⌜ r .ending ≡ endingOf (asked request (now (arcs .entry))) (now (labels .entry)) (length (now (route .entry))) layer node cell ⌝ }
+    ensures { λ r. ⌜ r .costs ≡ costsAfter (asked request (now (arcs .entry))) (now (labels .entry)) (length (now (route .entry))) layer node cell ⌝ }
+    ensures { λ _. ⌜ now (route .exit) ≡ routeAfter (asked request (now (arcs .entry))) (now (labels .entry)) (now (route .entry)) layer node cell ⌝ }
+{
+    let d = request.criteria as usize;
+    let words = shape.labels as usize * (d + 2);
+    if labels.len() < words {
+        return refuse(13, 1);
+    }
+    if route.len() < request.hops as usize {
+        return refuse(13, 2);
+    }
+    let cells = shape.cells;
+    if beyond(request, cells, layer, node, cell) {
+        return refuse(14, 0);
+    }
+    let l = label(labels, request, cells, layer, node, cell);
+    if word(l, d) == 0 {
+        return no_route(Ending::Empty);
+    }
+    let costs = [cost(l, d, 0), cost(l, d, 1), cost(l, d, 2)];
+    let trail = follow(labels, arcs, request, cells, layer, node, cell, route);
+    match trail {
+        Trail::Broke(j) => refuse(16, j),
+        Trail::Whole(n) => Back {
+            ending: Ending::Route(n),
+            costs,
+        },
+    }
+}
+
+// Reads the label of a layer, node and cell back as a route: its arc count and costs, and its arc numbers in travel order
+// at the front of the lent buffer. An empty cell or a refusal leaves the buffer as it came.
+pub fn read_back(
+    request: Request,
+    arcs: &[u32],
+    labels: &[u32],
+    layer: u32,
+    node: u32,
+    cell: u32,
+    route: &mut [u32],
+) -> Back
+    ensures { λ r. ⌜ r .ending ≡ endingOf (asked request (now (arcs .entry))) (now (labels .entry)) (length (now (route .entry))) layer node cell ⌝ }
+    ensures { λ r. ⌜ r .costs ≡ costsAfter (asked request (now (arcs .entry))) (now (labels .entry)) (length (now (route .entry))) layer node cell ⌝ }
+    ensures { λ _. ⌜ now (route .exit) ≡ routeAfter (asked request (now (arcs .entry))) (now (labels .entry)) (now (route .entry)) layer node cell ⌝ }
+{
+    let checked = check(request, arcs);
+    match checked {
+        Checked::Refused(r) => refuse(r.number, r.place),
+        Checked::Shaped(shape) => {
+            read_shaped(request, arcs, labels, shape, layer, node, cell, route)
+        }
+    }
 }

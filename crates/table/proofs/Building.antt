@@ -1,27 +1,26 @@
 -- The build of an accepted request: its buffers weighed, its ladders filled, its frame. Assumes nothing.
 use Prim.Native.Nat.{ℕ, zero, suc, _+_, _-_, _*_, _≤_, _<_}
-use mathlib.Core.Path.{_≡_, refl, sym, ap, ap₂, _∙_, subst}
-use mathlib.Core.List.{List, [], _∷_, _++_}
-use native.Mathlib.Nat.{le-trans, le-of-eq, mul-assoc, mul-le-mul}
+use mathlib.Core.Path.{_≡_, refl, sym, ap, _∙_, subst}
+use mathlib.Core.List.{List, [], _∷_}
+use native.Mathlib.Nat.{le-trans, le-of-eq, mul-le-mul}
 use native.Mathlib.Omega.{arith}
 use lib.ListN.{length, getD}
-use Rattle.words.specs.Loops.{total}
+use lib.Dec.{nltb→le}
 use Rattle.words.specs.Pieces.{part, write, join}
-use Rattle.words.specs.Rows.{Row, Weighed, clear, refused, weigh, settle}
+use Rattle.words.specs.Rows.{Weighed, clear, refused, weigh, settle}
 use Rattle.words.proofs.Loops.{total-ext}
 use Rattle.words.proofs.Pieces.{join-ext}
-use Rattle.words.proofs.Rows.{weigh-append, weigh-front, weigh-held, weigh-passed, weigh-none}
+use Rattle.words.proofs.Rows.{weigh-append, weigh-front, weigh-held, weigh-passed, weigh-none, weigh-clear-front, weigh-clear-back, clear-cons}
 use Rattle.words.proofs.Writes.{part-write-same}
 use Rattle.fences.specs.Fence as fence
 use Rattle.fences.proofs.Fences as fences
 use Rattle.fences.proofs.Ladders as ladders-of
 use Rattle.request.specs.Request.{Req, asked, width, ratioP, ratioQ}
-use Rattle.request.specs.Shape.{top, buckets, ladder, ladders, ladderAt, cells, labelCount, count}
+use Rattle.request.specs.Shape.{top, buckets, ladder, ladders, ladderAt, cells, labelCount}
 use Rattle.request.specs.Rows.{rows}
-use Rattle.request.specs.Accepted.{Accepted, Regular, Small, Fits}
+use Rattle.request.specs.Accepted.{Accepted}
 use Rattle.request.specs.Answer.{shapeOf, Ladders}
 use Rattle.request.specs.declared.Request.{Request}
-use Rattle.request.specs.declared.Refusal.{Refusal}
 use Rattle.request.specs.declared.Shape.{Shape}
 use Rattle.request.proofs.Accepted.{accepted-regular, accepted-small, accepted-fits}
 use Rattle.request.proofs.Answers.{cells-few}
@@ -29,13 +28,12 @@ use Rattle.request.proofs.Counts.{count-in}
 use Rattle.request.proofs.Ladders.{ladders-length}
 use Rattle.request.proofs.Tests.{lt-holds, lt-fails}
 use Rattle.request.proofs.Tops.{top-le}
-use Rattle.rounds.specs.Rounds.{span, table, tries}
+use Rattle.rounds.specs.Rounds.{table, tries}
 use Rattle.tries.specs.declared.Frame.{Frame}
-use Rattle.tries.specs.Frame.{Sized, Framed}
-use Rattle.table.specs.declared.Built.{Built}
+use Rattle.tries.specs.Frame.{Framed}
 use Rattle.table.specs.declared.Built.the-variants as built
 use Rattle.table.specs.Build.{buildRows, answer, builtOf, laddersAfter, labelsAfter, frameOf, ladderWords}
-use Rattle.table.proofs.Layers.{table-length}
+use Rattle.rounds.proofs.Table.{table-words}
 
 -- ---- the rows
 
@@ -56,6 +54,19 @@ module _ (R : Req) (ladderRoom labelRoom : ℕ) where
     pub all-clear : length (ladders R) ≤ ladderRoom → labelCount R * width R ≤ labelRoom → weigh (buildRows R ladderRoom labelRoom) ≡ clear
     unfolding buildRows Accepted
     all-clear h g = weigh-append (rows R) _ ok ∙ weigh-passed _ _ (lt-fails h) ∙ weigh-passed _ _ (lt-fails g) ∙ weigh-none
+
+-- no row holds: the request is accepted, and there is room for both
+module _ (R : Req) (ladderRoom labelRoom : ℕ) (e : weigh (buildRows R ladderRoom labelRoom) ≡ clear) where
+  pub clear-accepted : Accepted R
+  unfolding buildRows Accepted
+  clear-accepted = weigh-clear-front (rows R) _ e
+
+  pub clear-rooms : (length (ladders R) ≤ ladderRoom) × (labelCount R * width R ≤ labelRoom)
+  unfolding buildRows
+  clear-rooms =
+      let a = clear-cons _ _ (weigh-clear-back (rows R) _ e) in
+      let b = clear-cons _ _ (a .1) in
+      (nltb→le ladderRoom (length (ladders R)) (a .0), nltb→le labelRoom (labelCount R * width R) (b .0))
 
 -- ---- the answers
 
@@ -112,12 +123,7 @@ module _ (q : Request) (arcs : List ℕ) (acc : Accepted (asked q arcs)) (s : Sh
 
   -- labels × (d+2) words are the table's
   pub table-room : s .labels * (q .criteria + 2) ≡ length (table (asked q arcs))
-  unfolding labelCount
-  table-room =
-      ap (λ (n : ℕ). n * (q .criteria + 2)) shape-labels
-      ∙ mul-assoc (q .hops + 1) (q .nodes * cells R) (width R)
-      ∙ ap (λ (n : ℕ). (q .hops + 1) * n) (mul-assoc (q .nodes) (cells R) (width R))
-      ∙ sym (table-length R (accepted-regular R acc))
+  table-room = ap (λ (n : ℕ). n * (q .criteria + 2)) shape-labels ∙ table-words R (accepted-regular R acc)
 
   -- ---- the ladders
 

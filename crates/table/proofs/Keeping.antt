@@ -1,21 +1,19 @@
 -- The kept layer, label by label. Assumes nothing.
-use Prim.Native.Nat.{ℕ, zero, suc, _+_, _-_, _*_, _≤_, _<_}
+use Prim.Native.Nat.{ℕ, _+_, _*_, _≤_, _<_}
 use mathlib.Core.Path.{_≡_, refl, sym, ap, _∙_}
-use mathlib.Core.Bool.{Bool, cond}
-use mathlib.Core.List.{List, [], _∷_, _++_}
-use native.Mathlib.Nat.{add-mul, mul-assoc}
+use mathlib.Core.List.{List, [], _∷_}
 use native.Mathlib.Omega.{arith}
 use lib.ListN.{length, getD, take, length-replicate, length-append}
 use lib.Seq.{length-take-le}
 use lib.Dec.{ltb}
 use Rattle.words.specs.Pieces.{part, at, write, join}
 use Rattle.words.proofs.Choices.{cond-cases}
-use Rattle.words.proofs.Pieces.{piece-end, at-length, join-next, join-length, join-ext, join-join}
+use Rattle.words.proofs.Pieces.{piece-end, at-length, join-next, join-length, join-ext, join-join, at-at}
 use Rattle.words.proofs.Writes.{length-part, part-part, part-write-below, write-append}
 use Rattle.request.specs.Request.{Req, width}
 use Rattle.request.specs.Shape.{cells}
-use Rattle.rounds.specs.Label.{label, costs, step, filled, empty, kept}
-use Rattle.rounds.specs.Rounds.{span, block, keepCell, keepBlock, keepAll}
+use Rattle.rounds.specs.Label.{costs, step, filled, empty, kept}
+use Rattle.rounds.specs.Rounds.{block, keepCell, keepBlock, keepAll}
 use Rattle.labels.specs.Words.{keepWords}
 
 -- as defined, with d criteria
@@ -63,11 +61,8 @@ module _ (d n prev base : ℕ) (xs : List ℕ) (below : prev + n * (d + 2) ≤ b
 -- N blocks of C labels are N × C labels
 module _ (R : Req) (L : List ℕ) where
   label-in : (v c : ℕ) → c < cells R → at (width R) (block R L v) c ≡ at (width R) L (v * cells R + c)
-  unfolding block at
-  label-in v c h =
-      let p = piece-end (width R) (cells R) c h in
-      let e : v * span R + c * width R ≡ (v * cells R + c) * width R = sym (add-mul (v * cells R) c (width R) ∙ ap (λ (x : ℕ). x + c * width R) (mul-assoc v (cells R) (width R))) in
-      part-part L (v * span R) (span R) (c * width R) (width R) p ∙ ap (λ (x : ℕ). part L x (width R)) e
+  unfolding block
+  label-in v c h = at-at (width R) (cells R) L v c h
 
   pub layer-is : join (λ j. keepWords (R .criteria) (at (width R) L j)) (R .nodes * cells R) ≡ keepAll R L
   unfolding keepAll keepBlock

@@ -1,24 +1,23 @@
 -- A round from the words of one layer, and all layers one after another. Assumes nothing.
-use Prim.Native.Nat.{ℕ, zero, suc, _+_, _-_, _*_, _≤_, _<_, zero-le}
+use Prim.Native.Nat.{ℕ, _+_, _*_, _≤_, _<_, zero-le}
 use mathlib.Core.Path.{_≡_, refl, sym, ap, ap₂, _∙_, subst}
 use mathlib.Core.List.{List, _++_}
-use native.Mathlib.Nat.{mul-assoc, zero-mul, one-mul, add-mul, le-trans, le-of-eq, zero-add, mul-le-mul-right}
+use native.Mathlib.Nat.{zero-mul, one-mul, add-mul, le-of-eq, mul-le-mul-right}
 use native.Mathlib.Numerals.{add-one}
 use native.Mathlib.Omega.{arith}
-use lib.ListN.{length, getD}
-use lib.Dec.{T}
+use lib.ListN.{length}
 use Rattle.words.specs.Loops.{upTo, total}
 use Rattle.words.specs.Pieces.{part, at, write, join}
 use Rattle.words.proofs.Loops.{total-next}
-use Rattle.words.proofs.Pieces.{join-next, join-suc, join-zero, join-length, join-at, piece-end}
+use Rattle.words.proofs.Pieces.{join-next, join-suc, join-zero, join-length, join-at}
 use Rattle.words.proofs.Writes.{length-part, length-write, part-write-same, part-write-below, part-write-inside, write-part, write-over, write-append}
-use Rattle.request.specs.Request.{Req, width, arcCount, reach}
-use Rattle.request.specs.Shape.{cells, largest, top}
+use Rattle.request.specs.Request.{Req, arcCount, reach}
 use Rattle.request.specs.Accepted.{Regular}
-use Rattle.rounds.specs.Label.{costs, filled}
-use Rattle.rounds.specs.Rounds.{span, block, keepAll, arcStep, round, roundTries, startLayer, layer, table, tries, labelOf, labelAt}
+use Rattle.rounds.specs.Label.{costs}
+use Rattle.rounds.specs.Rounds.{block, keepAll, arcStep, round, roundTries, startLayer, layer, table, tries, labelOf, labelAt}
 use Rattle.rounds.proofs.Round.{keepAll-length, round-length, layer-length}
 use Rattle.rounds.proofs.Start.{startLayer-length}
+use Rattle.rounds.proofs.Table.{table-length}
 use Rattle.rounds.proofs.Costs.{layer-costs, room-for-arc}
 use Rattle.tries.specs.Frame.{Room}
 use Rattle.table.specs.Build.{Layered}
@@ -66,10 +65,6 @@ module _ (R : Req) where
     pub words : ls ≡ write xs 0 (join (layer R) (i + 1))
     pub count : tried ≡ tries R i
 
-  pub table-length : Regular R → length (table R) ≡ (R .hops + 1) * layerWords R
-  unfolding table
-  table-length ok = join-length (layerWords R) (layer R) (R .hops + 1) (λ i _. layer-length R ok i)
-
   layers-length : Regular R → (n : ℕ) → length (join (layer R) n) ≡ n * layerWords R
   layers-length ok n = join-length (layerWords R) (layer R) n (λ i _. layer-length R ok i)
 
@@ -95,7 +90,7 @@ module _ (R : Req) where
       -- the layers so far, and the next, lie within the buffer
       pub ends : base + layerWords R + layerWords R ≤ length xs
       ends =
-          let t = table-length ok in
+          let t = table-length R ok in
           let b = g .begins in
           let m : (i + 1 + 1) * layerWords R ≤ (R .hops + 1) * layerWords R = mul-le-mul-right (layerWords R) (omega arith) in
           let x = add-mul (i + 1) 1 (layerWords R) in
@@ -171,7 +166,7 @@ module _ (R : Req) where
   module _ (ok : Regular R) (xs ls : List ℕ) (e : ls ≡ write xs 0 (startLayer R)) (room : length (table R) ≤ length xs) where
     one-layer : layerWords R ≤ length (table R)
     one-layer =
-        let t = table-length ok in
+        let t = table-length R ok in
         let m : 1 * layerWords R ≤ (R .hops + 1) * layerWords R = mul-le-mul-right (layerWords R) (omega arith) in
         let o = one-mul (layerWords R) in
         omega arith

@@ -1,6 +1,6 @@
 -- `draw_up`: layer 0 first, and the rounds over it. Assumes nothing.
-use mathlib.Core.Path.{_≡_, sym, ap, ap₂, _∙_}
-use Prim.Native.Nat.{ℕ, _+_, _-_, _*_, _≤_, _<_}
+use mathlib.Core.Path.{_≡_, ap, ap₂, _∙_}
+use Prim.Native.Nat.{ℕ, _+_, _*_, _≤_}
 use native.Mathlib.Nat.{mul-le-mul-right, one-mul}
 use mathlib.Core.List.{List}
 use lib.ListN.{length}
@@ -16,7 +16,8 @@ use Rattle.tries.proofs.Frames.{span-is}
 use Rattle.table.specs.Build.{startWords}
 use Rattle.table.proofs.Passing.{layerWords}
 use Rattle.table.proofs.Starting.{layer-is}
-use Rattle.table.proofs.Layers.{table-length, start-stands, over-start}
+use Rattle.table.proofs.Layers.{start-stands, over-start}
+use Rattle.rounds.proofs.Table.{table-length}
 use borrow.Author.Needs.{needs}
 use native.Mathlib.Omega.{arith}
 use Rattle.table.proofs.draw_up.Statement.{statement}

@@ -1,0 +1,9 @@
+pub mod Comparing
+pub mod Places
+pub mod Holding
+pub mod Leading
+pub mod Sound
+pub mod Following
+pub mod Numbers
+pub mod Answering
+pub mod Reading
