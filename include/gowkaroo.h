@@ -56,6 +56,8 @@ enum {
 /* ---- Sizes that always suffice ---- */
 
 enum {
+    GOWKAROO_MOST_CRITERIA = 3,
+    GOWKAROO_MOST_HOPS = 63,                /* route words that always suffice */
     GOWKAROO_MOST_SHEET_BYTES = 8192,
     GOWKAROO_MOST_ARC_WORDS = 512 * 5,      /* 512 arcs of d + 2 words: tail, head, costs */
     GOWKAROO_MOST_LADDER_WORDS = 2 * 4097,  /* two ladders of 4,096 buckets: B + 1 fences each */
@@ -99,6 +101,17 @@ uint64_t gowkaroo_build(const uint32_t request[GOWKAROO_REQUEST_WORDS],
                         const uint32_t *arcs, size_t arcs_len,
                         uint32_t *ladders, size_t ladders_len,
                         uint32_t *labels, size_t labels_len);
+
+/* Reads the label of a layer, node and cell back as a route. It trusts nothing in `labels`: a damaged table is told as such.
+ * The route's costs go to the three words of `costs` (with d = 2 the third is 0), its arc numbers in travel order to the front
+ * of `route`.
+ * Low: the route's arc count. Refusals: 2 to 10, 13 (1: labels, 2: route under K words), 14, 15 (an empty cell), 16. */
+uint64_t gowkaroo_read_back(const uint32_t request[GOWKAROO_REQUEST_WORDS],
+                            const uint32_t *arcs, size_t arcs_len,
+                            const uint32_t *labels, size_t labels_len,
+                            uint32_t layer, uint32_t node, uint32_t cell,
+                            uint32_t costs[GOWKAROO_MOST_CRITERIA],
+                            uint32_t *route, size_t route_len);
 
 #ifdef __cplusplus
 }

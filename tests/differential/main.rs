@@ -9,6 +9,7 @@ mod model;
 
 mod case;
 mod pipe;
+mod routes;
 mod sheets;
 mod tables;
 
@@ -26,7 +27,7 @@ type Part = (
     fn(&mut Planner) -> Result<Seen, String>,
 );
 
-const PARTS: [Part; 3] = [
+const PARTS: [Part; 4] = [
     ("sheets read", &[0, 1, 12, 13], |planner| {
         run(planner, 101, 24_000, sheets::to_read)
     }),
@@ -37,6 +38,11 @@ const PARTS: [Part; 3] = [
         "tables built",
         &[0, 2, 3, 4, 5, 6, 7, 8, 9, 10, 13],
         |planner| run(planner, 103, 6_000, tables::to_build),
+    ),
+    (
+        "labels read back",
+        &[0, 2, 3, 4, 5, 6, 7, 8, 9, 10, 13, 14, 15, 16],
+        |planner| run(planner, 104, 24_000, routes::to_read_back),
     ),
 ];
 

@@ -4,4 +4,5 @@ pub mod Answers
 pub mod Builds
 pub mod Routes
 pub mod Calls
+pub mod Backs
 pub mod Told
