@@ -113,16 +113,15 @@ static int measure(const struct row *row) {
     double best[3] = {1e9, 1e9, 1e9};
     for (int turn = 0; turn < RUNS; turn++)
         for (int which = 0; which < 3; which++) {
-            int times = 0;
-            double begun = now(), spent = 0;
-            do {
-                if (run(which, &in) != tries)
+            double until = now() + 0.02;
+            for (double begun = now(), ended; begun < until; begun = ended) {
+                uint64_t again = run(which, &in);
+                ended = now();
+                if (again != tries)
                     return 1;
-                times++;
-                spent = now() - begun;
-            } while (spent < 0.02);
-            if (spent / times < best[which])
-                best[which] = spent / times;
+                if (ended - begun < best[which])
+                    best[which] = ended - begun;
+            }
         }
     printf("| %u | %u | %u | %u | %u/%u | %u | %s | %u | %lu | %.3f | %.3f | %.3f | %.2f | %.2f | %.1f |\n", row->nodes, row->arcs, row->hops, row->criteria,
            row->p, row->q, row->most, row->costs == RANDOM ? "random" : "opposed", in.shape.cells, (unsigned long)tries, best[0] * 1e3, best[1] * 1e3,
