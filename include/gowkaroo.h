@@ -34,44 +34,46 @@ static inline uint32_t gowkaroo_low(uint64_t answer) { return (uint32_t)answer; 
 
 /* The numbers, and what the place says. */
 enum {
-    GOWKAROO_DONE = 0,         /* no refusal: low is a count                                                    */
-    GOWKAROO_SHEET_FORM = 1,   /* the first bad line, from 1; one more than the lines if `ask` is missing       */
-    GOWKAROO_NODES = 2,        /* N is not 1 to 64                                                              */
-    GOWKAROO_CRITERIA = 3,     /* d is not 2 or 3                                                               */
-    GOWKAROO_SOURCE = 4,       /* the source is not below N                                                     */
-    GOWKAROO_HOPS = 5,         /* K is over 63                                                                  */
-    GOWKAROO_RATIO = 6,        /* q is not 1 to 1,000 or p is over q: the first such criterion, from 1          */
-    GOWKAROO_ARC_WORDS = 7,    /* the arc words are no multiple of d + 2, or over 512 arcs                      */
-    GOWKAROO_ARC = 8,          /* a node or a cost out of range: the first such arc, from 0                     */
-    GOWKAROO_BUCKETS = 9,      /* over 4,096 buckets: the first such criterion, from 1                          */
-    GOWKAROO_LABELS = 10,      /* over 1,048,576 labels                                                         */
-    GOWKAROO_NUMBER = 11,      /* the writer: a number to be written is over 99,999,999                         */
-    GOWKAROO_SHEET_BYTES = 12, /* the sheet is over 8,192 bytes                                                 */
-    GOWKAROO_SHORT = 13,       /* a lent buffer is too short: the first such; each function says which is which */
-    GOWKAROO_ASKED = 14,       /* the asked layer is over K, the node not below N or the cell not below C       */
-    GOWKAROO_EMPTY = 15,       /* the asked cell is empty: its step is 0                                        */
-    GOWKAROO_BROKEN = 16       /* the chain is broken: the layer where it breaks                                */
+    GOWKAROO_DONE = 0,                 /* no refusal: low is a count */
+    GOWKAROO_REFUSED_FORM = 1,         /* sheet form: the first bad line, from 1; one more than the lines if `ask` is missing */
+    GOWKAROO_REFUSED_NODES = 2,        /* N is not 1 to 64 */
+    GOWKAROO_REFUSED_CRITERIA = 3,     /* d is not 2 or 3 */
+    GOWKAROO_REFUSED_SOURCE = 4,       /* the source is not below N */
+    GOWKAROO_REFUSED_HOPS = 5,         /* K is over 63 */
+    GOWKAROO_REFUSED_RATIO = 6,        /* q is not 1 to 1,000, or p is over q: the first such criterion, from 1 */
+    GOWKAROO_REFUSED_ARC_WORDS = 7,    /* the arc words are no multiple of d + 2, or over 512 arcs */
+    GOWKAROO_REFUSED_ARC = 8,          /* an arc's node or cost is out of range: the first such arc, from 0 */
+    GOWKAROO_REFUSED_BUCKETS = 9,      /* over 4,096 buckets: the first such criterion, from 1 */
+    GOWKAROO_REFUSED_LABELS = 10,      /* over 1,048,576 labels */
+    GOWKAROO_REFUSED_NUMBER = 11,      /* writer: a number to be written is over 99,999,999 */
+    GOWKAROO_REFUSED_SHEET_BYTES = 12, /* the sheet is over 8,192 bytes */
+    GOWKAROO_REFUSED_BUFFER = 13,      /* a lent buffer is too short: the first such; each function says which is which */
+    GOWKAROO_REFUSED_ASKED = 14,       /* the asked layer is over K, the node not below N or the cell not below C */
+    GOWKAROO_REFUSED_EMPTY = 15,       /* the asked cell is empty: its step is 0 */
+    GOWKAROO_REFUSED_BROKEN = 16       /* the chain is broken: the layer where it breaks */
 };
 
 /* ---- Sizes that always suffice ---- */
 
 enum {
+    GOWKAROO_MOST_CRITERIA = 3,
+    GOWKAROO_MOST_HOPS = 63,                /* route words that always suffice */
     GOWKAROO_MOST_SHEET_BYTES = 8192,
-    GOWKAROO_MOST_ARC_WORDS = 512 * 5,           /* 512 arcs of d + 2 words: tail, head, costs                  */
-    GOWKAROO_MOST_LADDER_WORDS = 2 * 4097,       /* two ladders of 4,096 buckets and one fence more             */
-    GOWKAROO_MOST_LABEL_WORDS = 1048576 * 5      /* 1,048,576 labels of d + 2 words: costs, step, from          */
+    GOWKAROO_MOST_ARC_WORDS = 512 * 5,      /* 512 arcs of d + 2 words: tail, head, costs */
+    GOWKAROO_MOST_LADDER_WORDS = 2 * 4097,  /* two ladders of 4,096 buckets: B + 1 fences each */
+    GOWKAROO_MOST_LABEL_WORDS = 1048576 * 5 /* 1,048,576 labels of d + 2 words: costs, step, from */
 };
 
 /* ---- The request: eight words ---- */
 
 enum {
-    GOWKAROO_AT_NODES = 0,    /* N, 1 to 64                                                                     */
-    GOWKAROO_AT_CRITERIA = 1, /* d, 2 or 3                                                                      */
-    GOWKAROO_AT_SOURCE = 2,   /* below N                                                                        */
-    GOWKAROO_AT_HOPS = 3,     /* K, 0 to 63                                                                     */
-    GOWKAROO_AT_P1 = 4,       /* the first criterion's ratio, p over q: q 1 to 1,000, p 0 to q                  */
+    GOWKAROO_AT_NODES = 0,    /* N, 1 to 64 */
+    GOWKAROO_AT_CRITERIA = 1, /* d, 2 or 3 */
+    GOWKAROO_AT_SOURCE = 2,   /* below N */
+    GOWKAROO_AT_HOPS = 3,     /* K, 0 to 63 */
+    GOWKAROO_AT_P1 = 4,       /* the first criterion's ratio, p over q: q 1 to 1,000, p 0 to q */
     GOWKAROO_AT_Q1 = 5,
-    GOWKAROO_AT_P2 = 6,       /* the second's; with d = 2 it is not in use: read as 0 over 1, never looked at   */
+    GOWKAROO_AT_P2 = 6,       /* the second's; with d = 2 it is not in use: read as 0 over 1, and never looked at */
     GOWKAROO_AT_Q2 = 7,
     GOWKAROO_REQUEST_WORDS = 8
 };
@@ -99,6 +101,17 @@ uint64_t gowkaroo_build(const uint32_t request[GOWKAROO_REQUEST_WORDS],
                         const uint32_t *arcs, size_t arcs_len,
                         uint32_t *ladders, size_t ladders_len,
                         uint32_t *labels, size_t labels_len);
+
+/* Reads the label of a layer, node and cell back as a route. It trusts nothing in `labels`: a damaged table is told as such.
+ * The route's costs go to the three words of `costs` (with d = 2 the third is 0), its arc numbers in travel order to the front
+ * of `route`.
+ * Low: the route's arc count. Refusals: 2 to 10, 13 (1: labels, 2: route under K words), 14, 15 (an empty cell), 16. */
+uint64_t gowkaroo_read_back(const uint32_t request[GOWKAROO_REQUEST_WORDS],
+                            const uint32_t *arcs, size_t arcs_len,
+                            const uint32_t *labels, size_t labels_len,
+                            uint32_t layer, uint32_t node, uint32_t cell,
+                            uint32_t costs[GOWKAROO_MOST_CRITERIA],
+                            uint32_t *route, size_t route_len);
 
 #ifdef __cplusplus
 }

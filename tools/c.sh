@@ -3,6 +3,7 @@
 #   link_any OUT FILE.. links C files with the archive: by the machine's own C compiler on x86-64, else by the kit's
 #   link_kit OUT FILE.. the same by the kit's clang and linker, for x86-64 on either machine
 #   run_any PROGRAM ..  runs what either made: on x86-64 as it is, on Arm in the kit's emulator
+# link_kit takes a flag more for the compiler in MORE.
 # The archive is for x86-64 Linux. The kit brings no C headers: tools/bare/ declares the few names that are used here.
 
 command -v rt >/dev/null || { echo "c.sh: the Rattle toolchain's command 'rt' is not on the PATH" >&2; exit 2; }
@@ -11,6 +12,7 @@ own=$kit/on/$(uname -m)
 library=$root/target/staticlib/libdesk.a
 
 archive() {
+    mkdir -p "$root/target"
     if [ -e "$library" ] && [ -z "$(find "$root/crates" "$root/crates.txt" "$root/KIT" -newer "$library" | head -n 1)" ]; then
         return
     fi
@@ -24,7 +26,7 @@ link_kit() {
     for file in "$@"; do
         n=$((n + 1))
         "$own/toolchain/bin/clang" --target=x86_64-unknown-linux-gnu -std=c11 -O3 -Wall -Wextra -Werror -ffreestanding -fPIC -nostdinc \
-            -isystem "$root/tools/bare" -I "$root/include" -c "$file" -o "$out.$n.o" || return 1
+            -isystem "$root/tools/bare" -I "$root/include" ${MORE:-} -c "$file" -o "$out.$n.o" || return 1
         set -- "$@" "$out.$n.o"
         shift
     done

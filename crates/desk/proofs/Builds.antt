@@ -103,7 +103,7 @@ module _ (q : Request) (arcs : List ℕ) where
       (sound-each (bucketRow R) (q .criteria - 1) (λ j l _. bucket-room R j (graded-few (sizes-clear e) j l)))
       (λ _. (λ _. label-room R, λ _. tt))
 
-  rows-sound : Sound (rows (asked q arcs))
+  pub rows-sound : Sound (rows (asked q arcs))
   unfolding rows
   rows-sound =
       sound-append (askRows R ++ arcRows R) (shapeRows R)

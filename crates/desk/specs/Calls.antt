@@ -2,8 +2,10 @@
 use Prim.Native.Nat.{ℕ}
 use mathlib.Core.List.{List, [], _∷_}
 use lib.ListN.{getD}
-use Rattle.words.specs.Rows.{weigh}
+use Rattle.words.specs.Rows.{weigh, settle}
 use Rattle.request.specs.declared.Request.{Request}
+use Rattle.request.specs.Request.{Req}
+use Rattle.route.specs.Answer.{backRows, costsAfter}
 use Rattle.sheet.specs.Answer.{refusalSaid, unlessRefused}
 use Rattle.sheet.specs.Reader.{readerRows, readRequest}
 use Rattle.table.specs.declared.Built.{Built}
@@ -32,3 +34,7 @@ requestAfter s room words = unlessRefused (weigh (readerRows s room)) (requestWo
 abbrev pub builtSaid : Built → List ℕ
 builtSaid (built.Tries n) = 0 ∷ 0 ∷ n ∷ []
 builtSaid (built.Refused r) = refusalSaid r
+
+-- the three lent words of costs after a read-back: those of the route, and as they came where there is none
+unfoldable pub costsLent : Req → List ℕ → ℕ → ℕ → ℕ → ℕ → List ℕ → List ℕ
+costsLent R W room i v c words = settle (weigh (backRows R W room i v c)) (costsAfter R W room i v c) words

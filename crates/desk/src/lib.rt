@@ -1,6 +1,7 @@
 // The planner for C: slices, a request of eight words, and one 64-bit number for each answer.
 use request::Refusal;
 use request::Request;
+use route::Ending;
 use sheet::Outcome;
 use sheet::Writing;
 use table::Built;
@@ -12,8 +13,9 @@ ghost use Rattle.sheet.specs.Answer.{refusalSaid};
 ghost use Rattle.sheet.specs.Reader.{readSays, arcsAfter};
 ghost use Rattle.sheet.specs.Writer.{writeSays, sheetAfter};
 ghost use Rattle.table.specs.Build.{builtOf, laddersAfter, labelsAfter};
+ghost use Rattle.route.specs.Answer.{endingOf, said, routeAfter};
 ghost use Rattle.desk.specs.Packed.{pack, packed};
-ghost use Rattle.desk.specs.Calls.{requestFrom, requestWords, requestAfter, builtSaid};
+ghost use Rattle.desk.specs.Calls.{requestFrom, requestWords, requestAfter, builtSaid, costsLent};
 
 // number × 2^48 + low: the byte between them is 0.
 fn pack(number: u32, low: u64) -> u64
@@ -114,5 +116,36 @@ pub extern "C" fn gowkaroo_build(
     match built {
         Built::Refused(refusal) => pack_refusal(refusal),
         Built::Tries(tries) => pack(0, tries),
+    }
+}
+
+// Reads the label of a layer, node and cell back as a route: its costs go to the three words, its arc numbers in travel
+// order to the front of the lent route words, and the answer is its arc count. An empty cell or a refusal leaves both.
+#[no_mangle]
+pub extern "C" fn gowkaroo_read_back(
+    request: &[u32; 8],
+    arcs: &[u32],
+    labels: &[u32],
+    layer: u32,
+    node: u32,
+    cell: u32,
+    costs: &mut [u32; 3],
+    route: &mut [u32],
+) -> u64
+    ensures { λ r. ⌜ r ≡ packed (said (endingOf (asked (requestFrom (now (request .entry))) (now (arcs .entry))) (now (labels .entry)) (length (now (route .entry))) layer node cell)) ⌝ }
+    ensures { λ _. ⌜ now (costs .exit) ≡ costsLent (asked (requestFrom (now (request .entry))) (now (arcs .entry))) (now (labels .entry)) (length (now (route .entry))) layer node cell (now (costs .entry)) ⌝ }
+    ensures { λ _. ⌜ now (route .exit) ≡ routeAfter (asked (requestFrom (now (request .entry))) (now (arcs .entry))) (now (labels .entry)) (now (route .entry)) layer node cell ⌝ }
+{
+    let from = request_from(request);
+    let back = route::read_back(from, arcs, labels, layer, node, cell, route);
+    let ending = back.ending;
+    match ending {
+        Ending::Refused(refusal) => pack_refusal(refusal),
+        Ending::Empty => pack(15, 0),
+        Ending::Route(count) => {
+            let own = back.costs;
+            *costs = own;
+            pack(0, count as u64)
+        }
     }
 }

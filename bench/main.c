@@ -1,0 +1,140 @@
+/* Measures the proved build against plain C on the same inputs, in one process. Each row first compares every word. */
+#include <stdint.h>
+#include <stdio.h>
+#include <string.h>
+#include <time.h>
+
+#include "gowkaroo.h"
+#include "plain.h"
+
+enum costs { RANDOM, OPPOSED };
+
+struct row {
+    uint32_t nodes, arcs, hops, criteria, p, q, most;
+    enum costs costs;
+};
+
+static const struct row rows[] = {
+    /*  N    M   K  d   p   q     most     costs */
+    {16, 128, 15, 2, 1, 1, 1000, RANDOM},
+    {64, 512, 63, 2, 1, 1, 1000000, OPPOSED},
+    {32, 256, 63, 2, 1, 10, 1000, RANDOM},
+    {64, 512, 63, 2, 1, 10, 1000, OPPOSED},
+    {64, 512, 31, 2, 1, 10, 1000000, OPPOSED},
+    {64, 512, 15, 2, 1, 64, 1000, RANDOM},
+    {64, 512, 15, 2, 1, 64, 1000, OPPOSED},
+    {32, 256, 31, 2, 1, 64, 1000000, RANDOM},
+    {64, 512, 15, 2, 1, 64, 1000000, OPPOSED},
+    {32, 256, 4, 2, 0, 1, 1000, RANDOM},
+    {32, 512, 4, 2, 0, 1, 1000, OPPOSED},
+    {64, 512, 15, 3, 1, 1, 1000, RANDOM},
+    {64, 512, 15, 3, 1, 1, 1000000, OPPOSED},
+    {16, 128, 7, 3, 1, 10, 1000, RANDOM},
+    {16, 256, 7, 3, 1, 10, 1000, OPPOSED},
+};
+
+enum { RUNS = 15 };
+
+static uint32_t arcs[GOWKAROO_MOST_ARC_WORDS];
+static uint32_t ladders[2][GOWKAROO_MOST_LADDER_WORDS];
+static uint32_t labels[2][GOWKAROO_MOST_LABEL_WORDS];
+
+static uint64_t state;
+
+static uint32_t below(uint32_t count) {
+    state ^= state >> 12;
+    state ^= state << 25;
+    state ^= state >> 27;
+    return (uint32_t)((state * 0x2545f4914f6cdd1du >> 32) % count);
+}
+
+/* A ring through all nodes, so that each is reached, and arcs between any two. Opposed: the first cost is high where the second
+ * is low, so that few walks are better than others in both. */
+static void draw(const struct row *row) {
+    state = 88172645463325252u;
+    for (uint32_t a = 0; a < row->arcs; a++) {
+        uint32_t *arc = arcs + a * (row->criteria + 2);
+        arc[0] = a < row->nodes ? a : below(row->nodes);
+        arc[1] = a < row->nodes ? (a + 1) % row->nodes : below(row->nodes);
+        for (uint32_t j = 0; j < row->criteria; j++)
+            arc[2 + j] = below(row->most + 1);
+        if (row->costs == OPPOSED) {
+            uint32_t noise = row->most / 16 + 1;
+            uint32_t other = row->most - arc[2] + below(noise);
+            arc[3] = other > row->most ? row->most : other;
+        }
+    }
+}
+
+static double now(void) {
+    struct timespec at;
+    clock_gettime(CLOCK_MONOTONIC, &at);
+    return (double)at.tv_sec + (double)at.tv_nsec * 1e-9;
+}
+
+struct input {
+    uint32_t request[GOWKAROO_REQUEST_WORDS];
+    uint32_t m;
+    size_t arc_words;
+    struct plain_shape shape;
+};
+
+/* The build number `which`, into its own buffers. */
+static uint64_t run(int which, const struct input *in) {
+    if (which == 0)
+        return gowkaroo_build(in->request, arcs, in->arc_words, ladders[0], GOWKAROO_MOST_LADDER_WORDS, labels[0], GOWKAROO_MOST_LABEL_WORDS);
+    /* plain C finds the shape each time too: it is a part of the build */
+    struct plain_shape shape = plain_shape(in->request, arcs, in->m);
+    if (which == 1)
+        return plain_build_by_halves(in->request, arcs, in->m, shape, ladders[1], labels[1]);
+    return plain_build_by_climbing(in->request, arcs, in->m, shape, ladders[1], labels[1]);
+}
+
+static int measure(const struct row *row) {
+    struct input in = {{row->nodes, row->criteria, 0, row->hops, row->p, row->q, row->p, row->q}, row->arcs, row->arcs * (row->criteria + 2), {{0, 0}, 0, 0, 0}};
+    draw(row);
+    in.shape = plain_shape(in.request, arcs, in.m);
+    size_t all = (size_t)GOWKAROO_MOST_LABEL_WORDS * 4;
+    memset(labels[0], 0xa5, all);
+    memset(ladders[0], 0xa5, sizeof ladders[0]);
+    uint64_t tries = run(0, &in);
+    if (gowkaroo_number(tries) != GOWKAROO_DONE) {
+        printf("refused %u, place %u\n", gowkaroo_number(tries), gowkaroo_low(tries));
+        return 1;
+    }
+    for (int which = 1; which <= 2; which++) {
+        memset(labels[1], 0xa5, all);
+        memset(ladders[1], 0xa5, sizeof ladders[1]);
+        if (run(which, &in) != tries || memcmp(labels[0], labels[1], all) != 0 || memcmp(ladders[0], ladders[1], sizeof ladders[0]) != 0) {
+            printf("plain C %d and the proved build differ\n", which);
+            return 1;
+        }
+    }
+    double best[3] = {1e9, 1e9, 1e9};
+    for (int turn = 0; turn < RUNS; turn++)
+        for (int which = 0; which < 3; which++) {
+            double until = now() + 0.02;
+            for (double begun = now(), ended; begun < until; begun = ended) {
+                uint64_t again = run(which, &in);
+                ended = now();
+                if (again != tries)
+                    return 1;
+                if (ended - begun < best[which])
+                    best[which] = ended - begun;
+            }
+        }
+    printf("| %u | %u | %u | %u | %u/%u | %u | %s | %u | %lu | %.3f | %.3f | %.3f | %.2f | %.2f | %.1f |\n", row->nodes, row->arcs, row->hops, row->criteria,
+           row->p, row->q, row->most, row->costs == RANDOM ? "random" : "opposed", in.shape.cells, (unsigned long)tries, best[0] * 1e3, best[1] * 1e3,
+           best[2] * 1e3, best[0] / best[1], best[0] / best[2], (double)tries / best[0] / 1e6);
+    fflush(stdout);
+    return 0;
+}
+
+int main(void) {
+    printf("| N | M | K | d | ratio | costs to | costs | C | tries | proved, ms | halving, ms | climbing, ms | to halving | to climbing | million tries/s |\n");
+    printf("|--|--|--|--|--|--|--|--|--|--|--|--|--|--|--|\n");
+    for (size_t i = 0; i < sizeof rows / sizeof rows[0]; i++)
+        if (measure(&rows[i]) != 0)
+            return 1;
+    return 0;
+}
