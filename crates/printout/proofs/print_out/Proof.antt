@@ -6,6 +6,7 @@ use native.Mathlib.Omega.{arith}
 use lib.ListN.{length}
 use borrow.Author.Needs.{needs}
 use Rattle.words.specs.Pieces.{write}
+use Rattle.listing.specs.Listing.{refusalLine}
 use Rattle.printout.proofs.Printing.{prints-listing, prints-refusal}
 use Rattle.printout.proofs.print_out.Statement.{statement}
 use Rattle.printout.proofs.print_out.Tie as tie
@@ -47,8 +48,9 @@ returns-2 c =
     let s = c .before .before .before .before .before .before .before .before .before .before .before .before .before in
     let x = c .before .before .before .before .before .before .before .before .before .list in
     let l = c .before .before .print-line in
+    let r = c .before .before .before .before .before .listed2 .given .0 .0 in
     let p = prints-refusal (s .args .sheet .now) (s .args .text .now) (s .pre) (c .before .before .before .before .before .listed2 .given .0 .0) (sym (c .before .before .before .before .before .listed2 .given .1) ∙ x .ensures .0) in
-    (l .ensures .0 ∙ ap (length {A = ℕ}) (p .0), l .ensures .1 ∙ ap (λ (t : List ℕ). write t 0 _) (x .ensures .1 ∙ p .1) ∙ ap (write (s .args .text .now) 0) (p .0))
+    (l .ensures .0 ∙ ap (length {A = ℕ}) (p .0), l .ensures .1 ∙ ap (λ (t : List ℕ). write t 0 (refusalLine (r .number) (r .place))) (x .ensures .1 ∙ p .1) ∙ ap (write (s .args .text .now) 0) (p .0))
 
 pub print-out-spec : {M : Type 1} → statement M
 print-out-spec =
