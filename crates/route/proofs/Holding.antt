@@ -1,19 +1,19 @@
 -- What a start, a kept label and an arc label are that hold, fact by fact; and each test from its facts. Assumes nothing.
-use Prim.Native.Nat.{ℕ, zero, suc, _+_, _≤_, _<_}
-use mathlib.Core.Path.{_≡_, refl, sym, ap, _∙_, subst}
+use Prim.Native.Nat.{ℕ, _≤_, _<_}
+use mathlib.Core.Path.{_≡_, refl, sym, subst}
 use mathlib.Core.Bool.{Bool, true, false, not, _||_, _&&_}
 use mathlib.Core.List.{List}
 use native.Mathlib.Nat.{lt-of-not-le}
 use native.Mathlib.Omega.{arith}
 use lib.ListN.{length, getD, replicate, List·getD-eq-default}
 use lib.Dec.{T, leb, ltb, eqb, leb→le, ltb→lt, eqb→eq}
-use borrow.Author.Tests.{eq-eqb, lt-ltb, le-ltb, le-leb}
-use Rattle.words.proofs.Choices.{true-is}
+use borrow.Author.Tests.{eq-eqb, lt-ltb, le-leb}
 use Rattle.request.specs.Request.{Req, arcCount, head, arcCosts}
 use Rattle.request.specs.Shape.{cells}
 use Rattle.rounds.specs.Label.{costs, step, from, filled, sum}
 use Rattle.route.specs.Chain.{same, startHolds, agrees, keptHolds, arcHolds}
-use Rattle.route.proofs.Comparing.{same-equal}
+use Rattle.request.proofs.Tests.{or-right}
+use Rattle.route.proofs.Comparing.{same-equal, same-self}
 
 -- ---- tests
 
@@ -68,6 +68,11 @@ module _ (R : Req) (xs reached ys : List ℕ) where
   unfolding agrees filled
   agree-filled h = let p : 0 < step R reached = omega arith in rw (lt-ltb 0 (step R reached) p)
 
+  -- equal costs agree
+  pub agree-true : xs ≡ ys → T (agrees R xs reached ys)
+  unfolding agrees
+  agree-true e = or-right (not (filled R reached)) (same xs ys) (subst (λ (zs : List ℕ). T (same xs zs)) e (same-self xs))
+
 -- ---- a start
 
 pub record Starts (R : Req) (i : ℕ) (l : List ℕ) (v c : ℕ) : Type 0 where
@@ -97,6 +102,11 @@ module _ (R : Req) (i : ℕ) (l : List ℕ) (v c : ℕ) where
   unfolding startHolds
   start-rest s e n k f = rw (eq-eqb (step R l) 1 s, eq-eqb i 0 e, eq-eqb v (R .source) n, eq-eqb c 0 k, eq-eqb (from R l) 0 f)
 
+  pub start-true : Starts R i l v c → T (startHolds R i l v c)
+  start-true p =
+      subst T (start-rest (p .step-is) (p .layer-is) (p .node-is) (p .cell-is) (p .from-is))
+      (subst (λ (xs : List ℕ). T (same xs (replicate (R .criteria) 0))) (sym (p .costs-are)) (same-self (replicate (R .criteria) 0)))
+
 -- ---- a kept label
 
 pub record Keeps (R : Req) (i : ℕ) (l reached : List ℕ) : Type 0 where
@@ -121,6 +131,9 @@ module _ (R : Req) (i : ℕ) (l reached : List ℕ) where
   pub kept-rest : step R l ≡ 2 → 0 < i → from R l ≡ 0 → agrees R (costs R l) reached (costs R reached) ≡ keptHolds R i l reached
   unfolding keptHolds
   kept-rest s b f = rw (eq-eqb (step R l) 2 s, lt-ltb 0 i b, eq-eqb (from R l) 0 f)
+
+  pub kept-true : step R l ≡ 2 → 0 < i → from R l ≡ 0 → costs R l ≡ costs R reached → T (keptHolds R i l reached)
+  kept-true s b f e = subst T (kept-rest s b f) (agree-true R (costs R l) reached (costs R reached) e)
 
 -- ---- a label that came by an arc
 
@@ -151,3 +164,6 @@ module _ (R : Req) (i : ℕ) (l : List ℕ) (v a : ℕ) (reached : List ℕ) whe
       → agrees R (costs R l) reached (sum (costs R reached) (arcCosts R a)) ≡ arcHolds R i l v a reached
   unfolding arcHolds
   arc-rest s b m h f = rw (le-leb 3 (step R l) s, lt-ltb 0 i b, lt-ltb a (arcCount R) m, eq-eqb (head R a) v h, lt-ltb (from R l) (cells R) f)
+
+  pub arc-true : 3 ≤ step R l → 0 < i → a < arcCount R → head R a ≡ v → from R l < cells R → costs R l ≡ sum (costs R reached) (arcCosts R a) → T (arcHolds R i l v a reached)
+  arc-true s b m h f e = subst T (arc-rest s b m h f) (agree-true R (costs R l) reached (sum (costs R reached) (arcCosts R a)) e)

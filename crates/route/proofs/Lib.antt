@@ -7,3 +7,6 @@ pub mod Following
 pub mod Numbers
 pub mod Answering
 pub mod Reading
+pub mod Told
+pub mod Tables
+pub mod Promises

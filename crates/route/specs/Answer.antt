@@ -9,7 +9,6 @@ use Rattle.words.specs.Rows.{Row, Weighed, clear, refused, weigh, settle}
 use Rattle.request.specs.Request.{Req, width, reach}
 use Rattle.request.specs.Shape.{cells, labelCount}
 use Rattle.request.specs.Rows.{rows}
-use Rattle.request.specs.declared.Refusal.{Refusal}
 use Rattle.rounds.specs.Label.{costs, filled}
 use Rattle.route.specs.Chain.{labelIn, Chain, whole, broken, chain}
 use Rattle.route.specs.declared.Ending.{Ending}
@@ -52,10 +51,10 @@ ended (refused n p) k = refusal n p
 unfoldable pub endingOf : Req → List ℕ → ℕ → ℕ → ℕ → ℕ → Ending
 endingOf R W room i v c = ended (weigh (backRows R W room i v c)) (length (arcsOf (chain R W i v c)))
 
--- the paper's number and values of each ending: a route has number 0, place 0 and its arc count
+-- the paper's number and values of each ending: a route has number 0, place 0 and its arc count, an empty cell its number alone
 abbrev pub said : Ending → List ℕ
 said (ending.Route n) = 0 ∷ 0 ∷ n ∷ []
-said ending.Empty = 15 ∷ 0 ∷ []
+said ending.Empty = 15 ∷ []
 said (ending.Refused r) = r .number ∷ r .place ∷ []
 
 -- the costs beside it: those of the asked label, 0 past its last and 0 where there is no route

@@ -1,4 +1,4 @@
 pub mod Chain
 pub mod Links
-pub mod Walked
 pub mod Answer
+pub mod Walked

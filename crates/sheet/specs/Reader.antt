@@ -1,7 +1,7 @@
 -- Document 01, "Reader: 12, 1, 13 (arc words)": the reader's refusal table, its answer, and the arc words after it. Assumes nothing.
 use Prim.Native.Nat.{ℕ}
 use mathlib.Core.Bool.{Bool, true, false}
-use mathlib.Core.List.{List, [], _∷_}
+use mathlib.Core.List.{List, [], _∷_, _++_}
 use lib.ListN.{length, getD}
 use lib.Dec.{ltb}
 use Rattle.words.specs.Pieces.{write}
@@ -47,15 +47,21 @@ abbrev pub requestOf : Contents → Request
 requestOf (whole n d m words asks) = requestFrom n d asks
 requestOf (broken k) = noRequest
 
--- the reader's table for a sheet s, with room for so many arc words
-abbrev pub readerRows : List ℕ → ℕ → List Row
-readerRows s room =
+-- "the reader weighs 12 before 1": the rows of a sheet's form
+abbrev pub formRows : List ℕ → List Row
+formRows s =
     -- "12: sheet over 8,192 bytes"
     record { number = 12; holds = ltb 8192 (length s); place = 0 }
     -- "1: sheet form"
     ∷ record { number = 1; holds = isBroken (sheetOf s); place = badLine (sheetOf s) }
+    ∷ []
+
+-- the reader's table for a sheet s, with room for so many arc words
+abbrev pub readerRows : List ℕ → ℕ → List Row
+readerRows s room =
+    formRows s
     -- "13: lent buffer too short"
-    ∷ record { number = 13; holds = ltb room (length (wordsOf (sheetOf s))); place = 1 }
+    ++ record { number = 13; holds = ltb room (length (wordsOf (sheetOf s))); place = 1 }
     ∷ []
 
 -- a sheet has no number (0), no place (0) and the count of its arc words; a refusal its number and place

@@ -199,7 +199,7 @@ pub width-more : (n : ℕ) → 10 ≤ n → length (digits n) ≡ length (digits
 width-more n h = rw (digits-more n h, length-append)
 
 -- one digit more for a bound ten times as large
-width-within : (k b : ℕ) → ((n : ℕ) → n < b → length (digits n) ≤ k) → (n : ℕ) → n < b * 10 → length (digits n) ≤ suc k
+pub width-within : (k b : ℕ) → ((n : ℕ) → n < b → length (digits n) ≤ k) → (n : ℕ) → n < b * 10 → length (digits n) ≤ suc k
 width-within k b h n l =
     ⊎-elim (λ s. omega (arith, width-small n s)) (λ m. let i = h (n / 10) (omega arith) in omega (arith, width-more n m)) (lt-or-le n 10)
 

@@ -1,0 +1,13 @@
+pub mod Places
+pub mod Chains
+pub mod Numbers
+pub mod Lines
+pub mod Joins
+pub mod Prints
+pub mod Rooms
+pub mod Requests
+pub mod FromSheets
+pub mod Lengths
+pub mod Suffices
+pub mod Example
+pub mod Answers

@@ -1,0 +1,4 @@
+pub mod Listing
+pub mod Print
+pub mod List
+pub mod Example
