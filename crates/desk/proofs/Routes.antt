@@ -18,10 +18,11 @@ use Rattle.request.proofs.Accepted.{accepted-small}
 use Rattle.request.proofs.Tests.{nor-left}
 use Rattle.rounds.specs.Label.{step, from}
 use Rattle.route.specs.Chain.{labelIn, Chain, whole, broken, push, startHolds, keptHolds, arcHolds, chainIn, chain}
-use Rattle.route.specs.Answer.{breakLayer, arcsOf, backRows, refusal, ended, endingOf, said}
+use Rattle.route.specs.Answer.{breakLayer, arcsOf, backRows, refusal, ended, endingOf}
 use Rattle.route.specs.declared.Ending.{Ending}
 use Rattle.route.specs.declared.Ending.the-variants as ending
 use Rattle.desk.specs.Packed.{Answer}
+use Rattle.desk.specs.Calls.{endingSaid}
 use Rattle.desk.proofs.Sound.{Room, Sound, sound-refused, sound-append}
 use Rattle.desk.proofs.Builds.{rows-sound}
 
@@ -71,12 +72,12 @@ arcs-le R W n i v c =
 -- ---- the answers
 
 -- an empty cell is number 15; any other number is the refusal's
-refusal-answer : (n p : ℕ) → Room n p → Answer (said (refusal n p))
+refusal-answer : (n p : ℕ) → Room n p → Answer (endingSaid (refusal n p))
 unfolding Answer refusal
 refusal-answer n p r =
-    cond-cases (λ (x : Ending). Answer (said x)) (eqb n 15) (λ _. (omega arith, omega arith, omega arith)) (λ _. (r .some, r .few, r .near))
+    cond-cases (λ (x : Ending). Answer (endingSaid x)) (eqb n 15) (λ _. (omega arith, omega arith, omega arith)) (λ _. (r .some, r .few, r .near))
 
-ending-answer : (w : Weighed) (n : ℕ) → ((number place : ℕ) → w ≡ refused number place → Room number place) → (w ≡ clear → n < 4294967296) → Answer (said (ended w n))
+ending-answer : (w : Weighed) (n : ℕ) → ((number place : ℕ) → w ≡ refused number place → Room number place) → (w ≡ clear → n < 4294967296) → Answer (endingSaid (ended w n))
 unfolding Answer
 ending-answer clear n f g = (refl, refl, g refl, refl)
 ending-answer (refused number place) n f g = refusal-answer number place (f number place refl)
@@ -114,7 +115,7 @@ module _ (q : Request) (arcs W : List ℕ) (room i v c : ℕ) where
   unfolding backRows chain reach
   route-few e = omega (arith, hops-few (weigh-clear-front (rows (asked q arcs)) _ e), arcs-le (asked q arcs) W (suc (q .hops)) i v c)
 
-  pub back-answer : Answer (said (endingOf (asked q arcs) W room i v c))
+  pub back-answer : Answer (endingSaid (endingOf (asked q arcs) W room i v c))
   unfolding endingOf
   back-answer =
       ending-answer (weigh (backRows (asked q arcs) W room i v c)) (length (arcsOf (chain (asked q arcs) W i v c)))

@@ -7,9 +7,9 @@ use Rattle.request.specs.Request.{asked}
 use Rattle.sheet.specs.Reader.{readSays}
 use Rattle.sheet.specs.Writer.{writeSays}
 use Rattle.table.specs.Build.{builtOf}
-use Rattle.route.specs.Answer.{endingOf, said}
+use Rattle.route.specs.Answer.{endingOf}
 use Rattle.desk.specs.Packed.{packed, answerOf}
-use Rattle.desk.specs.Calls.{builtSaid}
+use Rattle.desk.specs.Calls.{builtSaid, endingSaid}
 use Rattle.desk.proofs.Packing.{answer-told}
 use Rattle.desk.proofs.Answers.{read-answer, write-answer}
 use Rattle.desk.proofs.Builds.{built-answer}
@@ -24,6 +24,5 @@ write-told r words room = answer-told (writeSays r words room) (write-answer r w
 pub build-told : (q : Request) (arcs : List ℕ) (a b : ℕ) → answerOf (packed (builtSaid (builtOf (asked q arcs) a b))) ≡ builtSaid (builtOf (asked q arcs) a b)
 build-told q arcs a b = answer-told (builtSaid (builtOf (asked q arcs) a b)) (built-answer q arcs a b)
 
--- of a read-back, for the call that packs it
-pub back-told : (q : Request) (arcs W : List ℕ) (room i v c : ℕ) → answerOf (packed (said (endingOf (asked q arcs) W room i v c))) ≡ said (endingOf (asked q arcs) W room i v c)
-back-told q arcs W room i v c = answer-told (said (endingOf (asked q arcs) W room i v c)) (back-answer q arcs W room i v c)
+pub back-told : (q : Request) (arcs W : List ℕ) (room i v c : ℕ) → answerOf (packed (endingSaid (endingOf (asked q arcs) W room i v c))) ≡ endingSaid (endingOf (asked q arcs) W room i v c)
+back-told q arcs W room i v c = answer-told (endingSaid (endingOf (asked q arcs) W room i v c)) (back-answer q arcs W room i v c)

@@ -6,6 +6,8 @@ use Rattle.words.specs.Rows.{weigh, settle}
 use Rattle.request.specs.declared.Request.{Request}
 use Rattle.request.specs.Request.{Req}
 use Rattle.route.specs.Answer.{backRows, costsAfter}
+use Rattle.route.specs.declared.Ending.{Ending}
+use Rattle.route.specs.declared.Ending.the-variants as ending
 use Rattle.sheet.specs.Answer.{refusalSaid, unlessRefused}
 use Rattle.sheet.specs.Reader.{readerRows, readRequest}
 use Rattle.table.specs.declared.Built.{Built}
@@ -34,6 +36,12 @@ requestAfter s room words = unlessRefused (weigh (readerRows s room)) (requestWo
 abbrev pub builtSaid : Built → List ℕ
 builtSaid (built.Tries n) = 0 ∷ 0 ∷ n ∷ []
 builtSaid (built.Refused r) = refusalSaid r
+
+-- a route has no number (0), no place (0) and its arc count; "an empty cell (number 15)" has place 0; a refusal its number and place
+abbrev pub endingSaid : Ending → List ℕ
+endingSaid (ending.Route n) = 0 ∷ 0 ∷ n ∷ []
+endingSaid ending.Empty = 15 ∷ 0 ∷ []
+endingSaid (ending.Refused r) = refusalSaid r
 
 -- the three lent words of costs after a read-back: those of the route, and as they came where there is none
 unfoldable pub costsLent : Req → List ℕ → ℕ → ℕ → ℕ → ℕ → List ℕ → List ℕ

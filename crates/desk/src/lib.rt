@@ -13,9 +13,9 @@ ghost use Rattle.sheet.specs.Answer.{refusalSaid};
 ghost use Rattle.sheet.specs.Reader.{readSays, arcsAfter};
 ghost use Rattle.sheet.specs.Writer.{writeSays, sheetAfter};
 ghost use Rattle.table.specs.Build.{builtOf, laddersAfter, labelsAfter};
-ghost use Rattle.route.specs.Answer.{endingOf, said, routeAfter};
+ghost use Rattle.route.specs.Answer.{endingOf, routeAfter};
 ghost use Rattle.desk.specs.Packed.{pack, packed};
-ghost use Rattle.desk.specs.Calls.{requestFrom, requestWords, requestAfter, builtSaid, costsLent};
+ghost use Rattle.desk.specs.Calls.{requestFrom, requestWords, requestAfter, builtSaid, endingSaid, costsLent};
 
 // number × 2^48 + low: the byte between them is 0.
 fn pack(number: u32, low: u64) -> u64
@@ -132,7 +132,7 @@ pub extern "C" fn gowkaroo_read_back(
     costs: &mut [u32; 3],
     route: &mut [u32],
 ) -> u64
-    ensures { λ r. ⌜ r ≡ packed (said (endingOf (asked (requestFrom (now (request .entry))) (now (arcs .entry))) (now (labels .entry)) (length (now (route .entry))) layer node cell)) ⌝ }
+    ensures { λ r. ⌜ r ≡ packed (endingSaid (endingOf (asked (requestFrom (now (request .entry))) (now (arcs .entry))) (now (labels .entry)) (length (now (route .entry))) layer node cell)) ⌝ }
     ensures { λ _. ⌜ now (costs .exit) ≡ costsLent (asked (requestFrom (now (request .entry))) (now (arcs .entry))) (now (labels .entry)) (length (now (route .entry))) layer node cell (now (costs .entry)) ⌝ }
     ensures { λ _. ⌜ now (route .exit) ≡ routeAfter (asked (requestFrom (now (request .entry))) (now (arcs .entry))) (now (labels .entry)) (now (route .entry)) layer node cell ⌝ }
 {
