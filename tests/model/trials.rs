@@ -1,4 +1,4 @@
-//! The trials: sheets for the program `trials`, each after a line of five
+//! The trials: sheets for the program `trials`, each after a line of four
 //! digits that gives its length, and what the lister has to print for them,
 //! one after another.
 
@@ -85,7 +85,7 @@ pub fn sheets() -> Vec<Vec<u8>> {
 pub fn input() -> Vec<u8> {
     let mut all = Vec::new();
     for sheet in sheets() {
-        all.extend(format!("{:05}\n", sheet.len()).into_bytes());
+        all.extend(format!("{:04}\n", sheet.len()).into_bytes());
         all.extend(sheet);
     }
     all

@@ -15,10 +15,11 @@ use Rattle.request.specs.Shape.{labelCount}
 use Rattle.request.specs.Rows.{rows}
 use Rattle.request.specs.Accepted.{Accepted}
 use Rattle.request.specs.declared.Refusal.{Refusal}
-use Rattle.sheet.specs.Reader.{formRows}
+use Rattle.sheet.specs.Grammar.{sheetOf}
+use Rattle.sheet.specs.Reader.{wordsOf, requestOf, formRows}
 use Rattle.listing.specs.List.{asks, listingOf, requestRows, listRows, answer, listedOf, listingAfter}
 use Rattle.listing.specs.declared.Listed.the-variants as listed
-use Rattle.listing.proofs.Suffices.{bytes-suffice}
+use Rattle.listing.proofs.Suffices.{listing-few, bytes-suffice}
 use Rattle.printout.specs.Printout.{printoutRows, printed, printoutOf}
 use Rattle.listing.specs.declared.Printed.the-variants as print
 use Rattle.listing.specs.Listing.{refusedWord, refusalLine}
@@ -48,6 +49,14 @@ module _ (text bytes : List ℕ) (room : length text ≤ length bytes) where
   printed-text = sym (prints-text text bytes room .left)
 
 -- ---- the listing of a sheet, with 53,000 bytes and more
+
+-- a listing that no row refuses is shorter
+listing-fits : (s : List ℕ) → weigh (printoutRows s) ≡ clear → length (listingOf (asks s)) < 53000
+unfolding printoutRows Accepted asks
+listing-fits s e =
+    let back = weigh-clear-back (formRows s) _ e in
+    let words = clear-cons _ _ (weigh-clear-back (rows (asks s)) _ back) in
+    listing-few (requestOf (sheetOf s)) (wordsOf (sheetOf s)) (weigh-clear-front (rows (asks s)) _ back) (nltb→le 12288 (labelCount (asks s) * width (asks s)) (words .0))
 
 module _ (s : List ℕ) (room : ℕ) (enough : 53000 ≤ room) where
   -- "its 13 has place 2 for those and 3 for a listing longer than the byte buffer"
@@ -79,8 +88,8 @@ module _ (s : List ℕ) (room : ℕ) (enough : 53000 ≤ room) where
 -- ---- an answer of the C call, and what is printed for it
 
 by-listing : (w : Weighed) (text bytes : List ℕ) (n : ℕ) → listed.Bytes n ≡ answer w (length text)
-    → (n ≡ length (printed w text)) × (settle w (write bytes 0 text) bytes ≡ write bytes 0 (printed w text))
-by-listing clear text bytes n e = (cc, refl)
+    → (n ≡ length (printed w text)) × (w ≡ clear) × (settle w (write bytes 0 text) bytes ≡ write bytes 0 (printed w text))
+by-listing clear text bytes n e = (cc, refl, refl)
 by-listing (refused m p) text bytes n e = let z : _≡_ {A = ℕ} 0 1 = cc in absurd (omega arith)
 
 by-refusal : (w : Weighed) (text bytes : List ℕ) (r : Refusal) (k : ℕ) → listed.Refused r ≡ answer w k
@@ -90,12 +99,14 @@ by-refusal (refused m p) text bytes r k e = let f : r ≡ record { number = m; p
 
 module _ (s bytes : List ℕ) (enough : 53000 ≤ length bytes) where
   -- a listing is what is printed
-  pub prints-listing : (n : ℕ) → listed.Bytes n ≡ listedOf s (length bytes) → (n ≡ length (printoutOf s)) × (listingAfter s bytes ≡ write bytes 0 (printoutOf s))
+  pub prints-listing : (n : ℕ) → listed.Bytes n ≡ listedOf s (length bytes) → (n ≡ length (printoutOf s)) × (n ≤ 53000) × (listingAfter s bytes ≡ write bytes 0 (printoutOf s))
   unfolding listedOf listingAfter printoutOf
   prints-listing n e =
       let same = same-weight s (length bytes) enough in
       let p = by-listing (weigh (printoutRows s)) (listingOf (asks s)) bytes n (e ∙ ap (λ (w : Weighed). answer w (length (listingOf (asks s)))) same) in
-      (p .0, ap (λ (w : Weighed). settle w (write bytes 0 (listingOf (asks s))) bytes) same ∙ p .1)
+      let fits = listing-fits s (p .1) in
+      let long : n ≡ length (listingOf (asks s)) = p .0 ∙ ap (λ (w : Weighed). length (printed w (listingOf (asks s)))) (p .1) in
+      (p .0, omega arith, ap (λ (w : Weighed). settle w (write bytes 0 (listingOf (asks s))) bytes) same ∙ p .2)
 
   -- a refusal has left the bytes, and its line is what is printed
   pub prints-refusal : (r : Refusal) → listed.Refused r ≡ listedOf s (length bytes) → (refusalLine (r .number) (r .place) ≡ printoutOf s) × (listingAfter s bytes ≡ bytes)

@@ -14,7 +14,7 @@ ghost use Rattle.printout.specs.Printout.{printoutOf};
 // The line of a refusal, whole.
 fn print_line(refusal: Refusal, text: &mut [u8]) -> usize
     requires { ⌜ 53000 ≤ length (now text) ⌝ }
-    ensures { λ r. ⌜ r ≡ length (refusalLine (refusal .number) (refusal .place)) ⌝ }
+    ensures { λ r. ⌜ (r ≡ length (refusalLine (refusal .number) (refusal .place))) × (r ≤ 53000) ⌝ }
     ensures { λ _. ⌜ now (text .exit) ≡ write (now (text .entry)) 0 (refusalLine (refusal .number) (refusal .place)) ⌝ }
 {
     let printed = print_refusal(refusal, text);
@@ -27,7 +27,7 @@ fn print_line(refusal: Refusal, text: &mut [u8]) -> usize
 // What is printed for a sheet, at the front of the text; its length is the answer, and what lies beyond stays as it was.
 pub fn print_out(sheet: &[u8], text: &mut [u8]) -> usize
     requires { ⌜ 53000 ≤ length (now text) ⌝ }
-    ensures { λ r. ⌜ r ≡ length (printoutOf (now (sheet .entry))) ⌝ }
+    ensures { λ r. ⌜ (r ≡ length (printoutOf (now (sheet .entry)))) × (r ≤ 53000) ⌝ }
     ensures { λ _. ⌜ now (text .exit) ≡ write (now (text .entry)) 0 (printoutOf (now (sheet .entry))) ⌝ }
 {
     let listed = list(sheet, text);

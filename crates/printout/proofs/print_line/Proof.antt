@@ -27,12 +27,14 @@ module _ (s : tie.Start) where
   abbrev line-of : List ℕ
   line-of = refusalLine (s .args .refusal .number) (s .args .refusal .place)
 
-  fits : length line-of ≤ length (s .args .text .now)
-  fits =
+  short : length line-of ≤ 30
+  short =
       let n : s .args .refusal .number < 4294967296 = search needs in
       let p : s .args .refusal .place < 4294967296 = search needs in
-      let long = s .pre in
-      omega (arith, line-short (s .args .refusal .number) (s .args .refusal .place) n p)
+      line-short (s .args .refusal .number) (s .args .refusal .place) n p
+
+  fits : length line-of ≤ length (s .args .text .now)
+  fits = omega (arith, short, s .pre)
 
 same-length : tie.Need-same-length
 same-length c = search needs
@@ -41,7 +43,8 @@ returns : tie.Need-returns
 returns c =
     let s = c .before .before .before .before .before .before .before .before in
     let x = c .before .before .before .before .before .print-refusal in
-    (printed-bytes (line-of s) (s .args .text .now) (fits s) (c .before .printed .given .0 .0) (sym (c .before .printed .given .1) ∙ x .ensures .0), x .ensures .1 ∙ printed-text (line-of s) (s .args .text .now) (fits s))
+    let e = printed-bytes (line-of s) (s .args .text .now) (fits s) (c .before .printed .given .0 .0) (sym (c .before .printed .given .1) ∙ x .ensures .0) in
+    ((e, omega (arith, e, short s)), x .ensures .1 ∙ printed-text (line-of s) (s .args .text .now) (fits s))
 
 same-length-2 : tie.Need-same-length-2
 same-length-2 c = search needs

@@ -38,7 +38,7 @@ returns c =
     let s = c .before .before .before .before .before .before .before .before .before in
     let x = c .before .before .before .before .before .list in
     let p = prints-listing (s .args .sheet .now) (s .args .text .now) (s .pre) (c .before .listed .given .0 .0) (sym (c .before .listed .given .1) ∙ x .ensures .0) in
-    (p .0, x .ensures .1 ∙ p .1)
+    ((p .0, p .1), x .ensures .1 ∙ p .2)
 
 same-length-2 : tie.Need-same-length-2
 same-length-2 c = search needs
@@ -50,7 +50,7 @@ returns-2 c =
     let l = c .before .before .print-line in
     let r = c .before .before .before .before .before .listed2 .given .0 .0 in
     let p = prints-refusal (s .args .sheet .now) (s .args .text .now) (s .pre) (c .before .before .before .before .before .listed2 .given .0 .0) (sym (c .before .before .before .before .before .listed2 .given .1) ∙ x .ensures .0) in
-    (l .ensures .0 ∙ ap (length {A = ℕ}) (p .0), l .ensures .1 ∙ ap (λ (t : List ℕ). write t 0 (refusalLine (r .number) (r .place))) (x .ensures .1 ∙ p .1) ∙ ap (write (s .args .text .now) 0) (p .0))
+    ((l .ensures .0 .0 ∙ ap (length {A = ℕ}) (p .0), l .ensures .0 .1), l .ensures .1 ∙ ap (λ (t : List ℕ). write t 0 (refusalLine (r .number) (r .place))) (x .ensures .1 ∙ p .1) ∙ ap (write (s .args .text .now) 0) (p .0))
 
 pub print-out-spec : {M : Type 1} → statement M
 print-out-spec =
