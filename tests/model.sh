@@ -1,6 +1,6 @@
 #!/bin/sh
-# Builds the reference model of document 01 with rustc alone, runs its own checks, and lists every stored sheet of
-# tests/sheets/ against its stored listing.
+# Builds the reference model of document 01 with rustc alone, runs its own checks, lists every stored sheet of
+# tests/sheets/ against its stored listing, and holds what the program `trials` reads and has to print to the model.
 set -eu
 cd "$(dirname "$0")/.."
 
@@ -22,4 +22,10 @@ for sheet in tests/sheets/*.sheet; do
     fi
 done
 echo "model: $listed stored sheets listed, $failed failed"
+
+"$dir/model" trials-in >"$dir/stdin"
+"$dir/model" trials-out >"$dir/stdout"
+for side in stdin stdout; do
+    cmp "$dir/$side" "crates/trials/$side" || failed=$((failed + 1))
+done
 [ "$listed" -gt 0 ] && [ "$failed" -eq 0 ]

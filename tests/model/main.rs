@@ -1,5 +1,7 @@
 //! The reference model's program. `list` reads a sheet from standard input
-//! and prints what the lister prints; `self` runs the model's own checks.
+//! and prints what the lister prints; `self` runs the model's own checks;
+//! `trials-in` and `trials-out` print what the program `trials` reads and what
+//! it has to print.
 
 #[path = "model.rs"]
 mod model;
@@ -9,6 +11,7 @@ mod check_refusals;
 mod check_sheets;
 mod check_tables;
 mod hand;
+mod trials;
 
 use std::io::{Read, Write};
 use std::panic::catch_unwind;
@@ -58,19 +61,25 @@ fn list() -> std::io::Result<()> {
     std::io::stdout().write_all(&model::listing::lister(&sheet))
 }
 
+fn exit_code(printed: std::io::Result<()>) -> ExitCode {
+    match printed {
+        Ok(()) => ExitCode::SUCCESS,
+        Err(error) => {
+            eprintln!("model: {error}");
+            ExitCode::FAILURE
+        }
+    }
+}
+
 fn main() -> ExitCode {
     let mode = std::env::args().nth(1).unwrap_or_default();
     match mode.as_str() {
         "self" => self_checks(),
-        "list" => match list() {
-            Ok(()) => ExitCode::SUCCESS,
-            Err(error) => {
-                eprintln!("model: {error}");
-                ExitCode::FAILURE
-            }
-        },
+        "list" => exit_code(list()),
+        "trials-in" => exit_code(std::io::stdout().write_all(&trials::input())),
+        "trials-out" => exit_code(std::io::stdout().write_all(&trials::output())),
         _ => {
-            eprintln!("model: give `list` (a sheet on standard input) or `self`");
+            eprintln!("model: give `list` (a sheet on standard input), `self`, `trials-in` or `trials-out`");
             ExitCode::FAILURE
         }
     }

@@ -1,9 +1,9 @@
 -- A block that holds a label for some costs: low to them in the tie rule's order, and standing for them in each graded criterion in any sense N that
 -- costs at one position carry over an arc. The cover is one such sense; a both-sided cover and ratio 0 are others. Assumes nothing.
-use Prim.Native.Nat.{ℕ, zero, suc, _+_, _≤_, _<_}
-use mathlib.Core.Path.{_≡_, refl, sym, ap, _∙_, subst}
+use Prim.Native.Nat.{ℕ, zero, suc, _+_, _<_}
+use mathlib.Core.Path.{_≡_, sym, ap, _∙_, subst}
 use mathlib.Core.List.{List}
-use lib.ListN.{length, getD, replicate}
+use lib.ListN.{getD, replicate}
 use lib.Dec.{T}
 use Rattle.words.specs.Pieces.{at}
 use Rattle.request.specs.Request.{Req, width, arcCosts}

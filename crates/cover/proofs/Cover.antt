@@ -1,12 +1,12 @@
 -- The cover of demand 3, for any number of criteria, any ratios, any walk. Assumes nothing.
-use Prim.Native.Nat.{ℕ, zero, suc, _+_, _*_, _^_, _≤_, _<_, zero-le}
-use mathlib.Core.Path.{_≡_, refl, sym, ap, _∙_, subst}
+use Prim.Native.Nat.{ℕ, _+_, _*_, _^_, _≤_, _<_, zero-le}
+use mathlib.Core.Path.{_≡_, sym, ap, _∙_, subst}
 use mathlib.Core.Bool.{Bool}
 use mathlib.Core.List.{List}
 use native.Mathlib.Nat.{le-trans, le-of-eq, mul-assoc, mul-comm, mul-right-comm, mul-add, add-mul, zero-mul, mul-le-mul-left, mul-le-mul-right, add-le-add, pow-suc, pow-le-pow-left, le-of-mul-le-mul-right, le-add-left}
 use lib.ListN.{length}
 use lib.Dec.{T}
-use Rattle.request.specs.Request.{Req, last, lower, ratioP, ratioQ, reach}
+use Rattle.request.specs.Request.{Req, lower, ratioP, ratioQ, reach}
 use Rattle.request.specs.Shape.{cells}
 use Rattle.request.specs.Accepted.{Regular}
 use Rattle.request.proofs.Cells.{position-near}
@@ -14,7 +14,7 @@ use Rattle.rounds.specs.Label.{filled}
 use Rattle.rounds.specs.Rounds.{labelOf, labelAt}
 use Rattle.rounds.proofs.Ties.{Fair, LastLow, lower-fair}
 use Rattle.cover.specs.Walk.{Walk, sums}
-use Rattle.cover.specs.Cover.{Covers, Holds, ReadsBack}
+use Rattle.cover.specs.Cover.{Holds, ReadsBack}
 use Rattle.cover.proofs.Sound.{sound}
 use Rattle.cover.proofs.Carry.{Carries}
 use Rattle.cover.proofs.Standing.{every-walk}

@@ -1,6 +1,6 @@
 -- The route that a label's chain names: a kept label's is the same route, an arc label's has the arc at its end. Assumes nothing.
-use Prim.Native.Nat.{ℕ, zero, suc, _+_, _-_, _≤_, _<_}
-use mathlib.Core.Path.{_≡_, refl, sym, ap, ap₂, _∙_, subst}
+use Prim.Native.Nat.{ℕ, suc, _+_, _-_, _<_}
+use mathlib.Core.Path.{_≡_, sym, ap, ap₂, _∙_, subst}
 use mathlib.Core.Bool.{not}
 use mathlib.Core.List.{List, [], _∷_, _++_}
 use native.Mathlib.Nat.{add-sub-cancel-left}
@@ -10,7 +10,7 @@ use lib.Dec.{T, leb, le→leb}
 use Rattle.words.proofs.Choices.{cond-true, cond-false}
 use Rattle.request.specs.Request.{Req, width, arcCount, tail}
 use Rattle.request.specs.Accepted.{Regular}
-use Rattle.rounds.specs.Label.{label, costs, step, from, kept, candidate, came}
+use Rattle.rounds.specs.Label.{costs, step, from, kept, candidate, came}
 use Rattle.rounds.specs.Rounds.{labelAt}
 use Rattle.rounds.proofs.Labels.{step-label, from-label, costs-length, candidate-length}
 use Rattle.cover.specs.Cover.{route}

@@ -1,17 +1,17 @@
 -- Every filled label is a walk's: of layer i, a walk of at most i arcs with exactly its sums. Assumes nothing.
-use Prim.Native.Nat.{ℕ, zero, suc, _+_, _*_, _≤_, _<_, zero-le}
+use Prim.Native.Nat.{ℕ, zero, suc, _≤_, _<_, zero-le}
 use mathlib.Core.Path.{_≡_, refl, sym, ap, _∙_, subst}
 use mathlib.Core.List.{List, [], _∷_, _++_}
-use native.Mathlib.Nat.{le-step, le-of-lt}
+use native.Mathlib.Nat.{le-step}
 use lib.ListN.{length}
 use lib.Dec.{T}
 use Rattle.words.specs.Pieces.{at}
 use Rattle.words.proofs.Pieces.{at-length}
-use Rattle.request.specs.Request.{Req, width, arcCount, tail, head, reach}
+use Rattle.request.specs.Request.{Req, width, tail, head}
 use Rattle.request.specs.Shape.{cells, cell}
 use Rattle.request.specs.Accepted.{Regular}
 use Rattle.rounds.specs.Label.{costs, filled, start, kept}
-use Rattle.rounds.specs.Rounds.{span, block, startBlock, startLayer, keepBlock, layer, labelOf, labelAt}
+use Rattle.rounds.specs.Rounds.{span, block, startBlock, keepBlock, layer, labelOf, labelAt}
 use Rattle.rounds.proofs.Labels.{start-costs, kept-costs}
 use Rattle.rounds.proofs.Start.{start-block, start-label, start-only, cell-zero}
 use Rattle.rounds.proofs.Node.{Origin, of-old, of-arc, made}

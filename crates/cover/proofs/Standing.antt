@@ -1,16 +1,15 @@
 -- Every walk of at most i arcs stands in layer i, in any sense that costs at one position carry over an arc. Assumes nothing.
-use Prim.Native.Nat.{ℕ, zero, suc, _+_, _*_, _≤_, _<_}
-use mathlib.Core.Path.{_≡_, refl, sym, ap, _∙_, subst}
+use Prim.Native.Nat.{ℕ, zero, suc, _≤_, _<_}
+use mathlib.Core.Path.{sym, subst}
 use mathlib.Core.List.{List, [], _∷_, _++_}
 use native.Mathlib.Nat.{le-of-lt, not-suc-le-zero, le-of-suc-le-suc}
 use lib.ListN.{length, replicate}
-use lib.Dec.{T}
 use Rattle.words.specs.Pieces.{at}
 use Rattle.request.specs.Request.{Req, width, arcCount, tail, head, arcCosts, reach}
-use Rattle.request.specs.Shape.{cells, cell}
+use Rattle.request.specs.Shape.{cell}
 use Rattle.request.specs.Accepted.{Regular}
-use Rattle.rounds.specs.Label.{costs, filled, sum}
-use Rattle.rounds.specs.Rounds.{block, startLayer, layer, labelOf, labelAt}
+use Rattle.rounds.specs.Label.{sum}
+use Rattle.rounds.specs.Rounds.{block, layer, labelOf, labelAt}
 use Rattle.rounds.proofs.Ties.{Fair}
 use Rattle.rounds.proofs.Node.{Good, cand}
 use Rattle.rounds.proofs.Start.{start-block, start-good, cells-pos}

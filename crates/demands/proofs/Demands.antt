@@ -1,5 +1,5 @@
 -- The demands hold. Assumes nothing.
-use Prim.Native.Nat.{ℕ, _+_, _-_, _*_, _≤_, _<_}
+use Prim.Native.Nat.{ℕ, _+_, _*_, _≤_, _<_}
 use mathlib.Core.Path.{_≡_, refl, sym, ap, _∙_, subst}
 use mathlib.Core.List.{List, [], _∷_}
 use native.Mathlib.Omega.{arith}
@@ -14,10 +14,10 @@ use Rattle.fences.proofs.Growth.{buckets-le}
 use Rattle.request.specs.declared.Request.{Request}
 use Rattle.request.specs.Request.{Req, asked, width, head, reach, ratioP, ratioQ}
 use Rattle.request.specs.Shape.{top, buckets, cells}
-use Rattle.request.specs.Accepted.{Accepted, Regular}
+use Rattle.request.specs.Accepted.{Regular}
 use Rattle.request.proofs.Accepted.{accepted-regular}
 use Rattle.rounds.specs.Label.{costs, filled}
-use Rattle.rounds.specs.Rounds.{table, tries, labelAt}
+use Rattle.rounds.specs.Rounds.{tries, labelAt}
 use Rattle.rounds.proofs.Table.{table-words, front-label}
 use Rattle.rounds.proofs.Tries.{tries-le}
 use Rattle.rounds.proofs.Costs.{Within, layer-costs}
@@ -29,11 +29,10 @@ use Rattle.sheet.specs.Reader.{readerRows, readSays, arcsAfter, wordsOf}
 use Rattle.sheet.specs.Grammar.{sheetOf}
 use Rattle.sheet.specs.Writer.{writerRows, writeSays, sheetAfter, written}
 use Rattle.sheet.proofs.RoundTrips.{same-bytes, same-numbers}
-use Rattle.table.specs.Build.{buildRows, answer, builtOf, laddersAfter, labelsAfter}
-use Rattle.table.specs.declared.Built.{Built}
+use Rattle.table.specs.Build.{buildRows, answer, builtOf, labelsAfter}
 use Rattle.table.specs.declared.Built.the-variants as built
 use Rattle.table.proofs.Building.{clear-accepted, clear-rooms, refused-all, built-all}
-use Rattle.demands.specs.Demands.{Demand1, Demand2, Demand3, labelIn, HoldsIn, WalkIn}
+use Rattle.demands.specs.Demands.{Demand1, Demand2, Demand3, labelIn}
 
 -- the bucket counts of a request
 buckets-bound : (R : Req) → Regular R → (j : ℕ) → j < R .graded → 0 < ratioP R j → buckets R j ≤ 1 + bits (top R j) * ceil (ratioQ R j) (ratioP R j)

@@ -1,2 +1,3 @@
 pub mod HandNumbers
 pub mod Demands
+pub mod StandIns

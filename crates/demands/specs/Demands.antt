@@ -6,7 +6,7 @@ use lib.ListN.{length, getD}
 use lib.Dec.{T}
 use Rattle.words.specs.Loops.{upTo}
 use Rattle.words.specs.Pieces.{part, write}
-use Rattle.words.specs.Rows.{Row, row, Decides, NoneHolds}
+use Rattle.words.specs.Rows.{row, Decides, NoneHolds}
 use Rattle.fences.specs.Fence.{bits, ceil}
 use Rattle.request.specs.declared.Request.{Request}
 use Rattle.request.specs.Request.{Req, asked, width, arcCount, ratioP, ratioQ}

@@ -6,7 +6,6 @@ use mathlib.Core.List.{List, [], _∷_, _++_, map}
 use lib.ListN.{drop}
 use Rattle.words.specs.Loops.{upTo}
 use Rattle.fences.specs.Fence.{fences, position}
-use Rattle.request.specs.declared.Request.{Request}
 use Rattle.request.specs.Request.{Req, asked}
 use Rattle.request.specs.Shape.{top, buckets, cells}
 use Rattle.rounds.specs.Label.{costs, filled}

@@ -1,13 +1,11 @@
 -- Document 01's facts on fences, each once for every ratio p over q with q at least 1: they rise, each cost has exactly one position,
 -- and two costs at one position are within the ratio. Assumes nothing.
-use mathlib.Core.Path.{_≡_, refl, sym, ap, _∙_, subst}
-use mathlib.Core.Bool.{cond}
+use mathlib.Core.Path.{_≡_, refl, ap, _∙_, subst}
 use Prim.Native.Nat.{ℕ, zero, suc, _+_, _*_, _/_, _≤_, _<_, zero-le}
 use native.Mathlib.Nat.{le-refl, le-trans, le-antisymm, le-add-left, le-of-suc-le-suc, lt-of-not-le, mul-le-mul-left, mul-le-mul-right, div-mul-le-self, le-div-iff-mul-le, div-le-of-le-mul, mul-add, mul-comm, mul-div-cancel, zero-add, add-zero, add-suc, suc-add}
 use native.Mathlib.Numerals.{add-one}
 use native.Mathlib.Decide.{decLe, le-ind}
 use native.Mathlib.Omega.{arith}
-use lib.Dec.{leb}
 use borrow.Author.Tests.{le-leb, lt-leb}
 use Rattle.fences.specs.Fence.{next, fence, HasPosition, passed, position, buckets}
 

@@ -1,8 +1,8 @@
 -- The cell of a candidate, criterion by criterion. Assumes nothing.
 use Prim.Native.Nat.{ℕ, _+_, _-_, _*_, _≤_, _<_, zero-le}
-use mathlib.Core.Path.{_≡_, refl, sym, ap, ap₂, _∙_, subst}
+use mathlib.Core.Path.{_≡_, sym, ap₂, _∙_, subst}
 use mathlib.Core.List.{List}
-use native.Mathlib.Nat.{le-trans, le-of-lt, not-suc-le-zero, mul-le-mul-right}
+use native.Mathlib.Nat.{le-of-lt, not-suc-le-zero, mul-le-mul-right}
 use native.Mathlib.Omega.{arith}
 use lib.ListN.{length, getD, set, length-set}
 use native.Mathlib.Decide.{ℕ-discrete}
@@ -13,7 +13,7 @@ use Rattle.words.specs.Radix.{volume, radix}
 use Rattle.words.proofs.Loops.{total-zero, total-next, total-mono, below-next}
 use Rattle.words.proofs.Radix.{volume-next, radix-zero, radix-next, radix-lt, radix-ext}
 use Rattle.words.proofs.Writes.{length-part}
-use Rattle.fences.specs.Answer.{Bracket, Slot}
+use Rattle.fences.specs.Answer.{Slot}
 use Rattle.labels.specs.Words.{offset, ladderIn, Seeks}
 
 -- the criteria before j are found, and the hints of the others stand

@@ -1,6 +1,6 @@
 -- What a request is whose rows are clear, in plain facts. Assumes nothing.
-use Prim.Native.Nat.{ℕ, _+_, _-_, _*_, _/_, _%_, _≤_, _<_}
-use mathlib.Core.Path.{_≡_, refl, sym, ap, _∙_, subst}
+use Prim.Native.Nat.{ℕ, _+_, _*_, _/_, _%_, _≤_, _<_}
+use mathlib.Core.Path.{_≡_}
 use mathlib.Core.Bool.{Bool, true, false, cond, not, _||_}
 use mathlib.Core.List.{List, [], _∷_, _++_}
 use native.Mathlib.Nat.{div-add-mod'}
@@ -8,11 +8,10 @@ use native.Mathlib.Omega.{arith}
 use lib.ListN.{length, getD}
 use lib.Dec.{T, leb, ltb, nleb→lt, nltb→le}
 use Rattle.words.specs.Loops.{any}
-use Rattle.words.specs.Pieces.{at}
-use Rattle.words.specs.Rows.{Row, clear, weigh, each}
+use Rattle.words.specs.Rows.{clear, weigh, each}
 use Rattle.words.proofs.Loops.{none-any}
 use Rattle.words.proofs.Rows.{clear-cons, weigh-clear-front, weigh-clear-back, clear-each}
-use Rattle.request.specs.Request.{Req, width, arcCount, arc, arcCosts, tail, head, ratioP, ratioQ}
+use Rattle.request.specs.Request.{Req, width, arcCount, arc, tail, head, ratioP, ratioQ}
 use Rattle.request.specs.Shape.{buckets, labelCount}
 use Rattle.request.specs.Rows.{outside, sizeRows, ratioRow, arcWordsRow, arcFault, arcRow, bucketRow, labelRow, askRows, arcRows, shapeRows, rows}
 use Rattle.request.specs.Accepted.{Accepted, Regular, Small, Fits}

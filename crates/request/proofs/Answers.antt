@@ -1,5 +1,5 @@
 -- What an answer of `check` tells of the rows, and the numbers of a shape. Assumes nothing.
-use Prim.Native.Nat.{ℕ, _+_, _-_, _*_, _≤_, _<_}
+use Prim.Native.Nat.{ℕ, _+_, _*_, _≤_, _<_}
 use mathlib.Core.Path.{_≡_, refl, sym, ap, _∙_}
 use native.Mathlib.Nat.{le-refl, mul-le-mul, one-mul}
 use native.Mathlib.Omega.{arith}
@@ -7,11 +7,10 @@ use Rattle.words.specs.Rows.{Weighed, clear, refused, weigh}
 use Rattle.request.specs.Request.{Req}
 use Rattle.request.specs.Shape.{cells, labelCount}
 use Rattle.request.specs.Rows.{rows}
-use Rattle.request.specs.Accepted.{Accepted, Regular, Small, Fits}
+use Rattle.request.specs.Accepted.{Accepted, Regular, Fits}
 use Rattle.request.specs.Answer.{shapeOf, answer, checkedOf}
 use Rattle.request.specs.declared.Refusal.{Refusal}
 use Rattle.request.specs.declared.Shape.{Shape}
-use Rattle.request.specs.declared.Checked.{Checked}
 use Rattle.request.specs.declared.Checked.the-variants as checked
 
 -- a refusal is the first row's that holds

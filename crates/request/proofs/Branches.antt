@@ -1,16 +1,15 @@
 -- The rows that each weighing function goes through, decided from its branches. Assumes nothing.
 use Prim.Native.Nat.{ℕ, _+_, _*_, _/_, _%_, _≤_, _<_}
-use mathlib.Core.Path.{_≡_, refl, sym, ap, _∙_}
-use mathlib.Core.Bool.{Bool, true, false, cond, not, _||_}
-use mathlib.Core.List.{List, [], _∷_, _++_}
-use native.Mathlib.Omega.{arith}
-use lib.ListN.{length, getD}
+use mathlib.Core.Path.{_≡_, sym, ap, _∙_}
+use mathlib.Core.Bool.{Bool, not, _||_}
+use mathlib.Core.List.{List, [], _∷_}
+use lib.ListN.{getD}
 use lib.Dec.{T, leb, ltb}
 use Rattle.words.specs.Loops.{any}
 use Rattle.words.specs.Pieces.{at}
-use Rattle.words.specs.Rows.{Row, Weighed, clear, refused, weigh, each}
+use Rattle.words.specs.Rows.{clear, refused, weigh, each}
 use Rattle.words.proofs.Choices.{cond-true, cond-false}
-use Rattle.words.proofs.Rows.{weigh-none, weigh-held, weigh-passed, each-clear, each-refused}
+use Rattle.words.proofs.Rows.{weigh-none, weigh-held, weigh-passed, each-refused}
 use Rattle.request.specs.Rows.{outside, sizeRows, ratioRow, arcWordsRow, arcFault, arcRow}
 use Rattle.request.proofs.Tests.{or-left, or-right, or-neither, lt-holds, lt-fails, le-holds, le-fails}
 

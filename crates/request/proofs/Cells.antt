@@ -1,10 +1,9 @@
 -- Cell numbers, once over the number of criteria: in range, and one cell means one position in each criterion. Assumes nothing.
 use Prim.Native.Nat.{ℕ, _+_, _*_, _≤_, _<_, zero-le}
-use mathlib.Core.Path.{_≡_, refl, sym, ap, _∙_, subst}
+use mathlib.Core.Path.{_≡_, ap}
 use mathlib.Core.List.{List}
 use native.Mathlib.Omega.{arith}
 use lib.ListN.{getD}
-use Rattle.words.specs.Radix.{volume, radix}
 use Rattle.words.proofs.Radix.{radix-lt, radix-same, radix-ext}
 use Rattle.fences.specs.Fence.{fence}
 use Rattle.fences.proofs.Fences.{position-lt, position-is, fence-fact, fence-zero, rises}

@@ -1,18 +1,18 @@
 -- Counting the buckets of the criteria one by one: row 9, and the two counts of a shape. Assumes nothing.
-use Prim.Native.Nat.{ℕ, zero, suc, _+_, _-_, _*_, _≤_, _<_, zero-le}
-use mathlib.Core.Path.{_≡_, refl, sym, ap, ap₂, _∙_, subst}
-use mathlib.Core.Bool.{Bool, true, false, cond, not}
+use Prim.Native.Nat.{ℕ, zero, suc, _+_, _*_, _≤_, _<_}
+use mathlib.Core.Path.{_≡_, refl, sym, ap, ap₂, _∙_}
+use mathlib.Core.Bool.{Bool, cond, not}
 use mathlib.Core.List.{List, [], _∷_, _++_}
-use native.Mathlib.Nat.{not-suc-le-zero, suc-inj, one-mul, mul-one}
+use native.Mathlib.Nat.{not-suc-le-zero, one-mul, mul-one}
 use mathlib.Core.Logic.{_⊎_, inl, inr}
 use native.Mathlib.Decide.{decLt}
 use native.Mathlib.Omega.{arith}
 use lib.ListN.{length, getD, set, length-set}
 use lib.Seq.{getD-set-same, getD-set-other}
-use lib.Dec.{T, ltb, lit≤}
+use lib.Dec.{T, lit≤}
 use borrow.Author.Tests.{lt-ltb, le-ltb}
 use Rattle.words.specs.Radix.{volume}
-use Rattle.words.specs.Rows.{Row, Weighed, clear, refused, weigh, each}
+use Rattle.words.specs.Rows.{Weighed, clear, refused, weigh, each}
 use Rattle.words.proofs.Loops.{below-next}
 use Rattle.words.proofs.Radix.{volume-zero, volume-next}
 use Rattle.words.proofs.Rows.{each-clear, each-refused, clear-each, weigh-append, weigh-held, weigh-passed, weigh-none}
@@ -24,10 +24,8 @@ use Rattle.request.specs.Shape.{top, buckets, cells, labelCount, count}
 use Rattle.request.specs.Rows.{askRows, arcRows, bucketRow, labelRow, shapeRows, rows}
 use Rattle.request.specs.Answer.{said, shapeOf, shapedOf, answer, checkedOf}
 use Rattle.request.specs.declared.Refusal.{Refusal}
-use Rattle.request.specs.declared.Shape.{Shape}
 use Rattle.request.specs.declared.Weighing.{Weighing}
 use Rattle.request.specs.declared.Weighing.the-variants as weighing
-use Rattle.request.specs.declared.Checked.{Checked}
 use Rattle.request.specs.declared.Checked.the-variants as checked
 use Rattle.request.proofs.Accepted.{buckets-good}
 use Rattle.request.proofs.Stages.{decided}

@@ -1,11 +1,9 @@
 -- The ladders of a request, one after another: where each begins, and a cost's place in its ladder. Assumes nothing.
-use Prim.Native.Nat.{ℕ, _+_, _*_, _≤_, _<_}
-use mathlib.Core.Path.{_≡_, refl, sym, ap, _∙_}
-use mathlib.Core.List.{List}
+use Prim.Native.Nat.{ℕ, _+_, _≤_, _<_}
+use mathlib.Core.Path.{_≡_}
 use native.Mathlib.Omega.{arith}
-use lib.ListN.{length, getD}
-use Rattle.words.specs.Loops.{total}
-use Rattle.words.specs.Pieces.{part, join}
+use lib.ListN.{length}
+use Rattle.words.specs.Pieces.{part}
 use Rattle.words.proofs.Loops.{total-suc, total-mono}
 use Rattle.words.proofs.Pieces.{join-total, join-part}
 use Rattle.fences.specs.Answer.{Bracket, Slot}

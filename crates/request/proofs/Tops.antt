@@ -1,12 +1,10 @@
 -- Arc costs, the largest of them, and ladder tops. Assumes nothing.
-use Prim.Native.Nat.{ℕ, _+_, _*_, _≤_, _<_, zero-le, max}
-use mathlib.Core.Path.{_≡_, refl, sym, ap, _∙_}
-use mathlib.Core.List.{List}
+use Prim.Native.Nat.{ℕ, _+_, _≤_, _<_, zero-le, max}
+use mathlib.Core.Path.{_≡_, ap, _∙_}
 use native.Mathlib.Nat.{le-trans, le-max-left, le-max-right, max-le, mul-le-mul}
 use native.Mathlib.Omega.{arith}
 use lib.ListN.{length, getD, length-drop}
 use lib.Seq.{getD-drop}
-use Rattle.words.specs.Loops.{upTo}
 use Rattle.words.specs.Pieces.{at}
 use Rattle.words.proofs.Loops.{upTo-keeps, upTo-sets}
 use Rattle.words.proofs.Pieces.{at-length}

@@ -1,7 +1,6 @@
 -- What a request is that no row of 2 to 10 refuses: in the words of the rows, and in plain facts. Assumes nothing.
-use Prim.Native.Nat.{ℕ, _+_, _*_, _≤_, _<_}
+use Prim.Native.Nat.{ℕ, _*_, _≤_, _<_}
 use mathlib.Core.Path.{_≡_}
-use mathlib.Core.List.{List}
 use lib.ListN.{length, getD}
 use Rattle.words.specs.Rows.{clear, weigh}
 use Rattle.request.specs.Request.{Req, width, arcCount, arcCosts, tail, head, ratioP, ratioQ}

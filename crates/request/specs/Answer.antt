@@ -10,7 +10,6 @@ use Rattle.words.specs.Rows.{Weighed, clear, refused, weigh}
 use Rattle.request.specs.Request.{Req}
 use Rattle.request.specs.Shape.{cells, labelCount, count}
 use Rattle.request.specs.Rows.{rows}
-use Rattle.request.specs.declared.Refusal.{Refusal}
 use Rattle.request.specs.declared.Shape.{Shape}
 use Rattle.request.specs.declared.Weighing.{Weighing}
 use Rattle.request.specs.declared.Weighing.the-variants as weighing

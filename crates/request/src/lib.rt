@@ -226,7 +226,8 @@ fn count_buckets(q: Request, arcs: &[u32], j: usize) -> Buckets
     requires { ⌜ Small (asked q (now arcs)) ⌝ }
     ensures { λ r. ⌜ r ≡ bucketsOf (ratioP (asked q (now (arcs .entry))) j) (ratioQ (asked q (now (arcs .entry))) j) (top (asked q (now (arcs .entry))) j) ⌝ }
 {
-    let top = q.hops * largest(arcs, q.criteria as usize + 2, j);
+    let most = largest(arcs, q.criteria as usize + 2, j);
+    let top = q.hops * most;
     let ratios = q.ratios;
     fences::count(ratios[j * 2], ratios[j * 2 + 1], top)
 }

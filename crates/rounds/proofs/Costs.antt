@@ -1,23 +1,22 @@
 -- Every label's costs are at most its layer's number times the largest arc cost. Assumes nothing.
-use Prim.Native.Nat.{ℕ, zero, suc, _+_, _*_, _≤_, _<_, zero-le}
-use mathlib.Core.Path.{_≡_, refl, sym, ap, ap₂, _∙_, subst}
+use Prim.Native.Nat.{ℕ, zero, suc, _+_, _*_, _≤_, _<_}
+use mathlib.Core.Path.{_≡_, ap, ap₂, _∙_, subst}
 use mathlib.Core.List.{List}
-use native.Mathlib.Nat.{le-trans, suc-mul, mul-le-mul-right}
+use native.Mathlib.Nat.{suc-mul, mul-le-mul-right}
 use native.Mathlib.Omega.{arith}
-use lib.ListN.{length, getD, replicate}
+use lib.ListN.{length, getD}
 use lib.Dec.{T}
 use Rattle.words.specs.Pieces.{at}
 use Rattle.words.proofs.Pieces.{at-length}
-use Rattle.request.specs.Request.{Req, width, arcCount, arcCosts, tail, head, reach}
+use Rattle.request.specs.Request.{Req, width, arcCosts, tail, reach}
 use Rattle.request.specs.Shape.{largest, top, cells}
 use Rattle.request.specs.Accepted.{Regular}
 use Rattle.request.proofs.Tops.{arc-le}
-use Rattle.request.proofs.Cells.{UnderTop}
 use Rattle.rounds.specs.Label.{costs, filled, candidate}
 use Rattle.rounds.specs.Rounds.{span, block, startBlock, startLayer, keepBlock, layer, labelOf, labelAt}
 use Rattle.rounds.proofs.Labels.{getD-sum, zero-costs, start-costs, kept-costs, came-costs}
 use Rattle.rounds.proofs.Start.{start-block, start-label, start-only}
-use Rattle.rounds.proofs.Node.{Origin, of-old, of-arc, cand}
+use Rattle.rounds.proofs.Node.{Origin, of-old, of-arc}
 use Rattle.rounds.proofs.Round.{keep-at, keep-filled, layer-length, origin}
 
 -- costs xs are at most i times the largest arc costs

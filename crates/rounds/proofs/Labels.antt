@@ -1,7 +1,7 @@
 -- A label's words: its parts, sums of costs, what an empty block holds. Assumes nothing.
-use Prim.Native.Nat.{ℕ, zero, suc, _+_, _*_, _≤_, _<_}
+use Prim.Native.Nat.{ℕ, zero, suc, _+_, _*_, _<_}
 use mathlib.Core.Path.{_≡_, refl, sym, ap, _∙_, subst}
-use mathlib.Core.List.{List, [], _∷_, _++_}
+use mathlib.Core.List.{List, [], _∷_}
 use native.Mathlib.Nat.{zero-add, suc-inj}
 use native.Mathlib.Omega.{arith}
 use lib.ListN.{length, getD, take, drop, replicate, length-append, length-take, length-replicate}
@@ -9,7 +9,7 @@ use lib.Seq.{take-at, getD-at, getD-append-add}
 use lib.Dec.{T, ltb, lt→ltb, ltb→lt}
 use Rattle.words.specs.Pieces.{at}
 use Rattle.words.proofs.Writes.{getD-part}
-use Rattle.request.specs.Request.{Req, width, arcCount, arcCosts}
+use Rattle.request.specs.Request.{Req, width, arcCount}
 use Rattle.request.specs.Accepted.{Regular}
 use Rattle.request.proofs.Tops.{arc-length}
 use Rattle.rounds.specs.Label.{label, costs, step, from, filled, empty, start, kept, sum, candidate, came}

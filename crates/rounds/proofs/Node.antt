@@ -1,10 +1,9 @@
 -- The arcs into one node v, offered in table order to its block, where arc a's tail has the block F a: where each label comes from, and that each
 -- try is there or bettered. Assumes nothing.
-use Prim.Native.Nat.{ℕ, zero, suc, _+_, _*_, _≤_, _<_, zero-le}
-use mathlib.Core.Path.{_≡_, refl, sym, ap, _∙_, subst}
-use mathlib.Core.Bool.{Bool, true, false, cond, not}
+use Prim.Native.Nat.{ℕ, _<_}
+use mathlib.Core.Path.{_≡_, refl, sym, _∙_, subst}
+use mathlib.Core.Bool.{cond}
 use mathlib.Core.List.{List}
-use native.Mathlib.Omega.{arith}
 use lib.ListN.{length}
 use lib.Dec.{T, T-not, eqb, eqb→eq, eqb-refl}
 use Rattle.words.specs.Loops.{upTo}
@@ -12,7 +11,7 @@ use Rattle.words.specs.Pieces.{at, put}
 use Rattle.words.proofs.Choices.{cond-cases}
 use Rattle.words.proofs.Loops.{upTo-keeps, upTo-sets}
 use Rattle.words.proofs.Pieces.{at-length, put-length, at-put, at-put-same}
-use Rattle.request.specs.Request.{Req, width, arcCount, tail, head}
+use Rattle.request.specs.Request.{Req, width, arcCount, head}
 use Rattle.request.specs.Shape.{cells, cell}
 use Rattle.request.specs.Accepted.{Regular}
 use Rattle.rounds.specs.Label.{costs, filled, wins, candidate, came}

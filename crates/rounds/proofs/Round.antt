@@ -1,21 +1,20 @@
 -- A round, node by node: it is the arcs into each node, offered to the kept block. Assumes nothing.
-use Prim.Native.Nat.{ℕ, zero, suc, _+_, _*_, _≤_, _<_, zero-le, suc-le-suc}
+use Prim.Native.Nat.{ℕ, zero, suc, _*_, _<_}
 use mathlib.Core.Path.{_≡_, refl, sym, ap, _∙_, subst}
-use mathlib.Core.Bool.{Bool, true, false, cond, not}
+use mathlib.Core.Bool.{cond}
 use mathlib.Core.List.{List}
 use native.Mathlib.Decide.{ℕ-discrete}
-use native.Mathlib.Omega.{arith}
 use lib.ListN.{length}
-use lib.Dec.{T, T-not, not-T, eqb, eqb→eq, eqb-refl}
+use lib.Dec.{T, not-T, eqb, eqb→eq, eqb-refl}
 use Rattle.words.specs.Loops.{upTo}
-use Rattle.words.specs.Pieces.{at, put, join}
+use Rattle.words.specs.Pieces.{at, put}
 use Rattle.words.proofs.Choices.{cond-cases, cond-true, cond-false}
 use Rattle.words.proofs.Loops.{upTo-keeps}
 use Rattle.words.proofs.Pieces.{at-length, put-length, at-put-same, at-put-other, join-length, join-at}
 use Rattle.request.specs.Request.{Req, width, arcCount, tail, head}
 use Rattle.request.specs.Shape.{cells, cell}
 use Rattle.request.specs.Accepted.{Regular}
-use Rattle.rounds.specs.Label.{costs, filled, empty, kept, candidate}
+use Rattle.rounds.specs.Label.{costs, filled, empty, kept}
 use Rattle.rounds.specs.Rounds.{span, block, tryArc, keepCell, keepBlock, keepAll, arcStep, round, layer, labelOf, labelAt}
 use Rattle.rounds.proofs.Labels.{empty-length, empty-not-filled, kept-length, kept-costs, kept-filled}
 use Rattle.rounds.proofs.Start.{startLayer-length}

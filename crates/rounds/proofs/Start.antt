@@ -1,16 +1,14 @@
 -- Layer 0: the start, alone, in the source's cell 0. Assumes nothing.
-use Prim.Native.Nat.{ℕ, zero, suc, _+_, _*_, _≤_, _<_, zero-le}
+use Prim.Native.Nat.{ℕ, _+_, _*_, _<_}
 use mathlib.Core.Path.{_≡_, refl, sym, ap, ap₂, _∙_, subst}
-use mathlib.Core.Bool.{cond}
 use mathlib.Core.List.{List}
 use native.Mathlib.Nat.{zero-mul}
 use native.Mathlib.Omega.{arith}
 use lib.ListN.{length, getD, replicate}
 use lib.Dec.{T, eqb, eqb→eq, eqb-refl}
-use Rattle.words.specs.Loops.{upTo}
 use Rattle.words.specs.Pieces.{at, put}
 use Rattle.words.specs.Radix.{radix}
-use Rattle.words.proofs.Choices.{cond-cases, cond-true, cond-false}
+use Rattle.words.proofs.Choices.{cond-cases, cond-true}
 use Rattle.words.proofs.Loops.{upTo-keeps}
 use Rattle.words.proofs.Pieces.{put-length, at-put, at-put-same, join-length, join-at}
 use Rattle.request.specs.Request.{Req, width}
@@ -18,7 +16,7 @@ use Rattle.request.specs.Shape.{buckets, position, cells, cell}
 use Rattle.request.specs.Accepted.{Regular}
 use Rattle.request.proofs.Cells.{UnderTop, cell-lt, position-none}
 use Rattle.rounds.specs.Label.{costs, filled, start}
-use Rattle.rounds.specs.Rounds.{span, block, blank, startBlock, startLayer, layer}
+use Rattle.rounds.specs.Rounds.{span, block, blank, startBlock, startLayer}
 use Rattle.rounds.proofs.Labels.{zero-costs, start-length, start-costs, start-filled, blank-length, blank-empty}
 use Rattle.rounds.proofs.Ties.{Fair}
 use Rattle.rounds.proofs.Node.{Good}

@@ -6,7 +6,7 @@ use native.Mathlib.Nat.{zero-add, mul-assoc}
 use native.Mathlib.Omega.{arith}
 use lib.ListN.{length}
 use lib.Arith.{digits-lt}
-use Rattle.words.specs.Pieces.{part, at, write, join}
+use Rattle.words.specs.Pieces.{part, at, write}
 use Rattle.words.proofs.Pieces.{at-at, join-at, join-length, piece-end}
 use Rattle.words.proofs.Writes.{part-write-inside}
 use Rattle.request.specs.Request.{Req, width}

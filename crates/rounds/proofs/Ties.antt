@@ -1,6 +1,6 @@
 -- What the cover asks of a tie rule: an order `Low old new` on costs, which sums keep, so that a winner is low to what it replaces, and what keeps
 -- its place is low to the loser. And document 01's rule. Assumes nothing.
-use Prim.Native.Nat.{ℕ, _+_, _-_, _≤_, _<_}
+use Prim.Native.Nat.{ℕ, _-_, _≤_}
 use mathlib.Core.Bool.{Bool, true, false, not, _||_}
 use mathlib.Core.List.{List}
 use native.Mathlib.Nat.{le-refl, le-trans, le-of-lt}

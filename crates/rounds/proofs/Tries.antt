@@ -1,5 +1,5 @@
 -- How many tries there are: at most C of an arc, M × C of a round, i × M × C of i rounds. Assumes nothing.
-use Prim.Native.Nat.{ℕ, _+_, _*_, _≤_, zero-le}
+use Prim.Native.Nat.{ℕ, _*_, _≤_, zero-le}
 use mathlib.Core.Bool.{Bool, true, false}
 use mathlib.Core.List.{List}
 use native.Mathlib.Nat.{le-refl, le-trans, le-of-eq, mul-one}

@@ -1,21 +1,20 @@
 -- The read-back's rows one after another, and its three answers from how they are weighed. Assumes nothing.
-use Prim.Native.Nat.{ℕ, _+_, _*_, _≤_, _<_}
-use mathlib.Core.Path.{_≡_, refl, sym, ap, _∙_, subst}
+use Prim.Native.Nat.{ℕ, _*_, _≤_, _<_}
+use mathlib.Core.Path.{_≡_, sym, ap, _∙_, subst}
 use mathlib.Core.Bool.{Bool, true, false, cond, not, _||_}
-use mathlib.Core.List.{List, [], _∷_, _++_}
+use mathlib.Core.List.{List, [], _∷_}
 use native.Mathlib.Omega.{arith}
 use lib.ListN.{length, getD}
-use lib.Dec.{T, leb, ltb, eqb, lt→ltb}
-use borrow.Author.Tests.{ne-eqb}
+use lib.Dec.{T, T-not, leb, ltb, eqb, lt→ltb}
+use borrow.Author.Tests.{eq-eqb, ne-eqb}
 use Rattle.words.specs.Pieces.{write}
-use Rattle.words.specs.Rows.{Row, Weighed, clear, refused, weigh, settle}
-use Rattle.words.proofs.Choices.{cond-cases, true-is, false-is, is-true}
+use Rattle.words.specs.Rows.{Weighed, clear, refused, weigh, settle}
+use Rattle.words.proofs.Choices.{true-is, is-true}
 use Rattle.words.proofs.Rows.{weigh-append, weigh-front, weigh-held, weigh-passed, weigh-none}
 use Rattle.request.specs.Request.{Req, width, reach}
 use Rattle.request.specs.Shape.{cells, labelCount}
 use Rattle.request.specs.Rows.{rows}
 use Rattle.request.specs.Accepted.{Accepted}
-use Rattle.request.specs.declared.Refusal.{Refusal}
 use Rattle.request.proofs.Tests.{lt-holds, lt-fails}
 use Rattle.rounds.specs.Label.{costs, step, filled}
 use Rattle.route.specs.Chain.{labelIn, Chain, whole, broken, chain}
@@ -74,6 +73,10 @@ module _ (R : Req) (W : List ℕ) (room i v c : ℕ) where
                 ∙ weigh-passed (record { number = 16; holds = false; place = 0 }) [] tt ∙ weigh-none
 
 -- ---- the answers
+
+-- a number that is not that of an empty cell
+pub other : {n : ℕ} → T (not (eqb n 15)) → n ≡ 15 → ⊥
+other {n} t e = T-not (eqb n 15) t (true-is (eq-eqb n 15 e))
 
 -- costs 0
 abbrev pub none : List ℕ

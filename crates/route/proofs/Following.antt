@@ -1,6 +1,6 @@
 -- The chain of a label by where it leads: layers fall, so that the labels which may be looked at always suffice. Assumes nothing.
 use Prim.Native.Nat.{ℕ, zero, suc, _+_, _-_, _≤_, _<_}
-use mathlib.Core.Path.{_≡_, refl, sym, ap, _∙_, subst}
+use mathlib.Core.Path.{_≡_, refl, sym, ap, _∙_}
 use mathlib.Core.Bool.{Bool, true, false, cond, not}
 use mathlib.Core.List.{List, [], _∷_, _++_}
 use native.Mathlib.Nat.{not-suc-le-zero, zero-add}
@@ -15,12 +15,12 @@ use Rattle.cover.proofs.Walks.{length-snoc}
 use Rattle.route.specs.Chain.{labelIn, Chain, whole, broken, push, startHolds, keptHolds, arcHolds, chainIn, chain}
 use Rattle.route.specs.Links.{linkOf, trailOf}
 use Rattle.route.specs.Answer.{arcsOf}
-use Rattle.route.specs.Walked.{Walked, Sound}
+use Rattle.route.specs.Walked.{Sound}
 use Rattle.route.specs.declared.Link.{Link}
 use Rattle.route.specs.declared.Link.the-variants as link
 use Rattle.route.specs.declared.Trail.{Trail}
 use Rattle.route.specs.declared.Trail.the-variants as trail
-use Rattle.route.proofs.Holding.{Keeps, kept-facts, Comes, arc-facts}
+use Rattle.route.proofs.Holding.{kept-facts, arc-facts}
 use Rattle.route.proofs.Leading.{kept-before, came-before}
 use Rattle.route.proofs.Sound.{chain-sound}
 

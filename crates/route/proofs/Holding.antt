@@ -1,14 +1,13 @@
 -- What a start, a kept label and an arc label are that hold, fact by fact; and each test from its facts. Assumes nothing.
-use Prim.Native.Nat.{ℕ, zero, suc, _+_, _≤_, _<_}
-use mathlib.Core.Path.{_≡_, refl, sym, ap, _∙_, subst}
+use Prim.Native.Nat.{ℕ, _≤_, _<_}
+use mathlib.Core.Path.{_≡_, refl, sym, subst}
 use mathlib.Core.Bool.{Bool, true, false, not, _||_, _&&_}
 use mathlib.Core.List.{List}
 use native.Mathlib.Nat.{lt-of-not-le}
 use native.Mathlib.Omega.{arith}
 use lib.ListN.{length, getD, replicate, List·getD-eq-default}
 use lib.Dec.{T, leb, ltb, eqb, leb→le, ltb→lt, eqb→eq}
-use borrow.Author.Tests.{eq-eqb, lt-ltb, le-ltb, le-leb}
-use Rattle.words.proofs.Choices.{true-is}
+use borrow.Author.Tests.{eq-eqb, lt-ltb, le-leb}
 use Rattle.request.specs.Request.{Req, arcCount, head, arcCosts}
 use Rattle.request.specs.Shape.{cells}
 use Rattle.rounds.specs.Label.{costs, step, from, filled, sum}

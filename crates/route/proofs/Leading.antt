@@ -1,6 +1,6 @@
 -- Where a label leads, test by test, from what the code has found so far. Assumes nothing.
-use Prim.Native.Nat.{ℕ, zero, suc, _+_, _-_, _*_, _≤_, _<_}
-use mathlib.Core.Path.{_≡_, refl, sym, ap, ap₂, _∙_, subst}
+use Prim.Native.Nat.{ℕ, _+_, _-_, _*_, _<_}
+use mathlib.Core.Path.{_≡_, sym, ap, ap₂, _∙_}
 use mathlib.Core.Bool.{Bool, true, false, cond, not}
 use mathlib.Core.List.{List}
 use native.Mathlib.Omega.{arith}
@@ -14,7 +14,7 @@ use Rattle.route.specs.Chain.{labelIn, startHolds, keptHolds, arcHolds}
 use Rattle.route.specs.Links.{linkOf}
 use Rattle.route.specs.declared.Link.{Link}
 use Rattle.route.specs.declared.Link.the-variants as link
-use Rattle.route.proofs.Holding.{Keeps, kept-facts, Comes, arc-facts}
+use Rattle.route.proofs.Holding.{kept-facts, arc-facts}
 
 -- a label found by its place among so many cells
 pub label-is : (R : Req) (W X : List ℕ) (n i v c : ℕ) → n ≡ cells R → X ≡ at (width R) W ((i * R .nodes + v) * n + c) → X ≡ labelIn R W i v c

@@ -1,6 +1,6 @@
 -- The refusals of a request's own rows have numbers up to 10, so none of them is taken for an empty cell. Assumes nothing.
-use Prim.Native.Nat.{ℕ, zero, suc, _+_, _≤_, _<_}
-use mathlib.Core.Path.{_≡_, refl, sym, ap, _∙_, subst}
+use Prim.Native.Nat.{ℕ, zero, suc, _+_, _≤_}
+use mathlib.Core.Path.{_≡_, sym, _∙_, subst}
 use mathlib.Core.Bool.{Bool, true, false, cond, _||_}
 use mathlib.Core.List.{List, [], _∷_, _++_}
 use native.Mathlib.Omega.{arith}
@@ -8,7 +8,7 @@ use lib.ListN.{getD}
 use lib.Dec.{leb, ltb}
 use Rattle.words.specs.Loops.{upTo, any}
 use Rattle.words.specs.Pieces.{at}
-use Rattle.words.specs.Rows.{Row, Weighed, clear, refused, weigh, each}
+use Rattle.words.specs.Rows.{Row, refused, weigh, each}
 use Rattle.words.proofs.Rows.{weigh-held, weigh-passed, weigh-none, either, refused-not-clear}
 use Rattle.request.specs.Request.{Req}
 use Rattle.request.specs.Rows.{sizeRows, ratioRow, arcWordsRow, arcFault, arcRow, bucketRow, labelRow, askRows, arcRows, shapeRows, rows}

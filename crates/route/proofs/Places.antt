@@ -1,12 +1,12 @@
 -- Where a label's words lie: nothing wraps, and what a buffer that may end too soon has of a piece. Assumes nothing.
 use Prim.Native.Nat.{ℕ, _+_, _-_, _*_, _≤_, _<_}
-use mathlib.Core.Path.{_≡_, refl, sym, ap, _∙_}
-use mathlib.Core.List.{List, []}
+use mathlib.Core.Path.{_≡_, sym, ap, _∙_}
+use mathlib.Core.List.{List}
 use native.Mathlib.Nat.{mul-le-mul}
 use native.Mathlib.Omega.{arith}
 use lib.ListN.{length, take, drop, length-drop, drop-of-length-le}
 use lib.Seq.{take-nil, take-all}
-use Rattle.words.specs.Pieces.{part, at}
+use Rattle.words.specs.Pieces.{at}
 use Rattle.words.proofs.Pieces.{piece-part}
 use Rattle.request.specs.Request.{Req}
 use Rattle.request.specs.Shape.{cells}

@@ -1,19 +1,18 @@
 -- What a reader may take from a read-back's answer: a route is a walk with exactly the answered costs, on any label buffer; on the table of the
 -- build every filled label answers its route; each refusal, and the empty cell, is answered exactly when its row decides. Assumes nothing.
-use Prim.Native.Nat.{ℕ, zero, suc, _+_, _*_, _≤_, _<_}
+use Prim.Native.Nat.{ℕ, _+_, _*_, _≤_, _<_}
 use mathlib.Core.Path.{_≡_, refl, sym, ap, _∙_, subst}
 use mathlib.Core.Bool.{Bool, true, false, cond, not, _||_}
-use mathlib.Core.List.{List, [], _∷_, _++_}
-use native.Mathlib.Nat.{le-trans, le-of-eq, mul-assoc}
+use mathlib.Core.List.{List}
+use native.Mathlib.Nat.{mul-assoc}
 use native.Mathlib.Decide.{ℕ-discrete}
 use native.Mathlib.Omega.{arith}
-use lib.ListN.{length, getD, take, length-take}
+use lib.ListN.{length, length-take}
 use lib.Dec.{T, leb, ltb, eqb, ltb→lt, nltb→le}
-use borrow.Author.Tests.{eqb-true, ne-eqb}
+use borrow.Author.Tests.{eqb-true}
 use Rattle.words.specs.Pieces.{write}
-use Rattle.words.specs.Rows.{Row, Weighed, clear, refused, weigh, row, Decides, settle}
-use Rattle.words.proofs.Choices.{true-is}
-use Rattle.words.proofs.Rows.{weigh-clear-front, weigh-clear-back, clear-cons, refused-decides, decides-refused}
+use Rattle.words.specs.Rows.{Weighed, clear, refused, weigh, row, Decides, NoneHolds, settle}
+use Rattle.words.proofs.Rows.{weigh-clear-front, weigh-clear-back, clear-cons, refused-decides, decides-refused, none-clear, clear-none}
 use Rattle.request.specs.Request.{Req, width, reach}
 use Rattle.request.specs.Shape.{cells, labelCount}
 use Rattle.request.specs.Rows.{rows}
@@ -22,16 +21,14 @@ use Rattle.request.specs.declared.Refusal.{Refusal}
 use Rattle.request.proofs.Accepted.{accepted-regular}
 use Rattle.request.proofs.Tests.{or-neither, nor-left, lt-fails, le-fails}
 use Rattle.rounds.specs.Label.{costs, step, filled}
-use Rattle.rounds.specs.Rounds.{span, table, labelAt}
-use Rattle.cover.specs.Walk.{Walk, sums}
+use Rattle.rounds.specs.Rounds.{table, labelAt}
 use Rattle.cover.specs.Cover.{route}
 use Rattle.route.specs.Chain.{labelIn, Chain, whole, broken, chain}
-use Rattle.route.specs.Answer.{breaks, breakLayer, arcsOf, backRows, refusal, ended, endingOf, costsAfter, routeAfter}
+use Rattle.route.specs.Answer.{breaks, arcsOf, backRows, refusal, ended, endingOf, costsAfter, routeAfter}
 use Rattle.route.specs.Walked.{Walked, Sound, RouteRead, Fronts}
-use Rattle.route.specs.declared.Ending.{Ending}
 use Rattle.route.specs.declared.Ending.the-variants as ending
 use Rattle.route.proofs.Sound.{chain-sound}
-use Rattle.route.proofs.Answering.{empty-cell, chain-broken, chain-whole, three, none, empty-all, route-all}
+use Rattle.route.proofs.Answering.{empty-cell, chain-broken, chain-whole, three, none, route-all}
 use Rattle.route.proofs.Tables.{table-long, label-in, table-whole}
 
 -- ---- an ending tells how the rows were weighed
@@ -104,6 +101,14 @@ module _ (R : Req) (W : List ℕ) (room i v c : ℕ) where
       }
 
   -- ---- EXACTLY THE LISTED ANSWERS, by the law of rows
+
+  -- a route where no row holds, and nowhere else
+  pub none-route : NoneHolds (backRows R W room i v c) → endingOf R W room i v c ≡ ending.Route (length (arcsOf (chain R W i v c)))
+  unfolding endingOf
+  none-route h = ap (λ (w : Weighed). ended w (length arcs)) (none-clear (backRows R W room i v c) h)
+
+  pub route-none : (n : ℕ) → endingOf R W room i v c ≡ ending.Route n → NoneHolds (backRows R W room i v c)
+  route-none n e = clear-none (backRows R W room i v c) (route-clear n e .0)
 
   -- a row that decides is answered
   pub decides-ending : (k : ℕ) → Decides (backRows R W room i v c) k → endingOf R W room i v c ≡ refusal (row (backRows R W room i v c) k .number) (row (backRows R W room i v c) k .place)
@@ -217,3 +222,9 @@ module _ (R : Req) (ok : Accepted R) (W buffer : List ℕ) (front : Fronts R W) 
       route-all R W buffer i v c (chain-whole R W (length buffer) i v c ok long-enough roomy inside filled-in (route R i v c) e)
       (length (route R i v c)) (ap length (sym s)) (three (costs R (labelAt R i v c))) (write buffer 0 (route R i v c))
       (ap (λ (l : List ℕ). three (costs R l)) (sym (label-in R regular W front i v c hi hv hc))) (ap (write buffer 0) (sym s))
+
+  -- and that route is a walk to the label's node, with exactly its costs and at most i arcs
+  pub table-walks : RouteRead R W buffer i v c (length (route R i v c)) (route R i v c)
+  table-walks =
+      subst (RouteRead R W buffer i v c (length (route R i v c))) (ap arcsOf (table-whole R regular W front i v c hi hv hc full))
+      (route-walks R W buffer i v c (length (route R i v c)) (sym (table-route .0)))

@@ -13,7 +13,7 @@ use Rattle.words.proofs.Choices.{true-is, false-is}
 use Rattle.words.proofs.Writes.{write-part}
 use Rattle.request.specs.Request.{Req, asked, width, reach}
 use Rattle.request.specs.Shape.{cells, labelCount}
-use Rattle.request.specs.Accepted.{Accepted, Regular, Small, Fits}
+use Rattle.request.specs.Accepted.{Accepted}
 use Rattle.request.specs.Answer.{shapeOf}
 use Rattle.request.specs.declared.Request.{Request}
 use Rattle.request.specs.declared.Shape.{Shape}
@@ -23,7 +23,6 @@ use Rattle.rounds.specs.Label.{costs, step}
 use Rattle.route.specs.Chain.{labelIn, Chain, whole, broken, chain}
 use Rattle.route.specs.Links.{Within, trailOf}
 use Rattle.route.specs.Answer.{arcsOf, backRows}
-use Rattle.route.specs.declared.Trail.{Trail}
 use Rattle.route.specs.declared.Trail.the-variants as trail
 use Rattle.route.proofs.Places.{within-asked}
 use Rattle.route.proofs.Leading.{label-is}

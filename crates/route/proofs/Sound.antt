@@ -1,20 +1,19 @@
 -- A whole chain, in any words, is a walk with the label's costs. Assumes nothing.
-use Prim.Native.Nat.{ℕ, zero, suc, _+_, _-_, _≤_, _<_, zero-le}
-use mathlib.Core.Path.{_≡_, refl, sym, ap, _∙_, subst}
-use mathlib.Core.Bool.{Bool, cond, not}
+use Prim.Native.Nat.{ℕ, zero, suc, _+_, _-_, _<_, zero-le}
+use mathlib.Core.Path.{sym, ap, _∙_, subst}
 use mathlib.Core.List.{List, [], _∷_, _++_}
 use native.Mathlib.Nat.{le-refl}
 use native.Mathlib.Omega.{arith}
-use lib.ListN.{length, replicate}
+use lib.ListN.{replicate}
 use lib.Dec.{T, lt→ltb}
 use Rattle.words.proofs.Choices.{cond-cases}
-use Rattle.request.specs.Request.{Req, tail, head, arcCosts, reach}
-use Rattle.rounds.specs.Label.{costs, step, from, filled, sum}
+use Rattle.request.specs.Request.{Req, tail, arcCosts, reach}
+use Rattle.rounds.specs.Label.{step, from, filled, sum}
 use Rattle.cover.specs.Walk.{Walk, sums, sumsFrom}
 use Rattle.cover.proofs.Walks.{walk-snoc, sums-snoc, length-snoc}
 use Rattle.route.specs.Chain.{labelIn, Chain, whole, broken, push, startHolds, keptHolds, arcHolds, chainIn, chain}
-use Rattle.route.specs.Walked.{Walked, Sound}
-use Rattle.route.proofs.Holding.{Starts, start-facts, Keeps, kept-facts, Comes, arc-facts}
+use Rattle.route.specs.Walked.{Sound}
+use Rattle.route.proofs.Holding.{start-facts, kept-facts, arc-facts}
 
 module _ (R : Req) (W : List ℕ) where
   filled-step : (l : List ℕ) → 0 < step R l → T (filled R l)

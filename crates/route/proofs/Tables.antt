@@ -1,21 +1,21 @@
 -- On the table that the build draws up every filled label's chain is whole, and its arcs are the label's route. Assumes nothing.
 use Prim.Native.Nat.{ℕ, zero, suc, _+_, _-_, _*_, _≤_, _<_, zero-le, suc-le-suc}
 use mathlib.Core.Path.{_≡_, refl, sym, ap, ap₂, _∙_, subst}
-use mathlib.Core.Bool.{Bool, not}
-use mathlib.Core.List.{List, [], _∷_, _++_}
-use native.Mathlib.Nat.{le-refl, le-trans, le-of-lt, mul-assoc, add-mul, zero-add, add-sub-cancel-left, mul-le-mul-right}
+use mathlib.Core.Bool.{not}
+use mathlib.Core.List.{List, []}
+use native.Mathlib.Nat.{le-of-lt, mul-assoc, add-mul, zero-add, add-sub-cancel-left}
 use native.Mathlib.Omega.{arith}
-use lib.ListN.{length, take, replicate, length-replicate}
+use lib.ListN.{length, replicate, length-replicate}
 use lib.Dec.{T, not-T}
-use Rattle.words.specs.Pieces.{part, at, write, join}
+use Rattle.words.specs.Pieces.{part, at, write}
 use Rattle.words.proofs.Choices.{is-true}
 use Rattle.words.proofs.Pieces.{at-length, piece-end, join-length, join-at}
 use Rattle.words.proofs.Writes.{part-part, part-write-same}
 use Rattle.request.specs.Request.{Req, width, arcCount, tail, head, arcCosts, reach}
 use Rattle.request.specs.Shape.{cells}
 use Rattle.request.specs.Accepted.{Regular}
-use Rattle.rounds.specs.Label.{label, costs, step, from, filled, start, kept, sum, candidate, came}
-use Rattle.rounds.specs.Rounds.{span, block, startBlock, keepBlock, startLayer, layer, table, labelOf, labelAt}
+use Rattle.rounds.specs.Label.{costs, step, from, filled, start, kept, sum, candidate, came}
+use Rattle.rounds.specs.Rounds.{span, block, startBlock, keepBlock, layer, table, labelOf, labelAt}
 use Rattle.rounds.proofs.Labels.{costs-length, step-label, from-label, start-costs, kept-costs, candidate-length, came-costs}
 use Rattle.rounds.proofs.Start.{start-block, start-label, start-only}
 use Rattle.rounds.proofs.Node.{Origin, of-old, of-arc}
@@ -23,12 +23,10 @@ use Rattle.rounds.proofs.Round.{layer-length, keep-at, keep-filled, origin}
 use Rattle.cover.specs.Cover.{route}
 use Rattle.cover.proofs.Routes.{route-kept, route-arc}
 use Rattle.cover.proofs.Sound.{label-long}
-use Rattle.route.specs.Chain.{labelIn, Chain, whole, broken, push, startHolds, keptHolds, arcHolds, chain}
-use Rattle.route.specs.Links.{linkOf}
+use Rattle.route.specs.Chain.{labelIn, whole, push, startHolds, keptHolds, arcHolds, chain}
 use Rattle.route.specs.Walked.{Fronts}
-use Rattle.route.specs.declared.Link.{Link}
 use Rattle.route.specs.declared.Link.the-variants as link
-use Rattle.route.proofs.Holding.{Starts, start-facts, start-true, Keeps, kept-facts, kept-true, Comes, arc-true}
+use Rattle.route.proofs.Holding.{start-facts, start-true, kept-facts, kept-true, arc-true}
 use Rattle.route.proofs.Leading.{lead-ends, lead-kept, lead-came}
 use Rattle.route.proofs.Following.{chain-ends, chain-kept, chain-came}
 

@@ -1,9 +1,8 @@
 -- What an ending says tells which ending it is, and the promise leaves one answer. Assumes nothing.
 use Prim.Native.Nat.{ℕ}
 use mathlib.Core.Path.{_≡_, refl, ap, ap₂}
-use mathlib.Core.List.{List, [], _∷_}
+use mathlib.Core.List.{List}
 use native.Mathlib.Omega.{arith}
-use Rattle.request.specs.declared.Refusal.{Refusal}
 use Rattle.route.specs.Answer.{said}
 use Rattle.route.specs.declared.Ending.{Ending}
 use Rattle.route.specs.declared.Ending.the-variants as ending

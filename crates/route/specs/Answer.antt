@@ -9,7 +9,6 @@ use Rattle.words.specs.Rows.{Row, Weighed, clear, refused, weigh, settle}
 use Rattle.request.specs.Request.{Req, width, reach}
 use Rattle.request.specs.Shape.{cells, labelCount}
 use Rattle.request.specs.Rows.{rows}
-use Rattle.request.specs.declared.Refusal.{Refusal}
 use Rattle.rounds.specs.Label.{costs, filled}
 use Rattle.route.specs.Chain.{labelIn, Chain, whole, broken, chain}
 use Rattle.route.specs.declared.Ending.{Ending}

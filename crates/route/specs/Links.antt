@@ -1,6 +1,6 @@
 -- Where a label leads, by what it holds, and how following it to the start ends. Assumes nothing.
 use Prim.Native.Nat.{ℕ, _-_, _≤_}
-use mathlib.Core.Bool.{Bool, cond}
+use mathlib.Core.Bool.{cond}
 use mathlib.Core.List.{List}
 use lib.ListN.{length}
 use Rattle.request.specs.Request.{Req, tail}

@@ -1,14 +1,13 @@
 -- The build of an accepted request: its buffers weighed, its ladders filled, its frame. Assumes nothing.
 use Prim.Native.Nat.{ℕ, zero, suc, _+_, _-_, _*_, _≤_, _<_}
-use mathlib.Core.Path.{_≡_, refl, sym, ap, ap₂, _∙_, subst}
-use mathlib.Core.List.{List, [], _∷_, _++_}
+use mathlib.Core.Path.{_≡_, refl, sym, ap, _∙_, subst}
+use mathlib.Core.List.{List, [], _∷_}
 use native.Mathlib.Nat.{le-trans, le-of-eq, mul-le-mul}
 use native.Mathlib.Omega.{arith}
 use lib.ListN.{length, getD}
 use lib.Dec.{nltb→le}
-use Rattle.words.specs.Loops.{total}
 use Rattle.words.specs.Pieces.{part, write, join}
-use Rattle.words.specs.Rows.{Row, Weighed, clear, refused, weigh, settle}
+use Rattle.words.specs.Rows.{Weighed, clear, refused, weigh, settle}
 use Rattle.words.proofs.Loops.{total-ext}
 use Rattle.words.proofs.Pieces.{join-ext}
 use Rattle.words.proofs.Rows.{weigh-append, weigh-front, weigh-held, weigh-passed, weigh-none, weigh-clear-front, weigh-clear-back, clear-cons}
@@ -17,12 +16,11 @@ use Rattle.fences.specs.Fence as fence
 use Rattle.fences.proofs.Fences as fences
 use Rattle.fences.proofs.Ladders as ladders-of
 use Rattle.request.specs.Request.{Req, asked, width, ratioP, ratioQ}
-use Rattle.request.specs.Shape.{top, buckets, ladder, ladders, ladderAt, cells, labelCount, count}
+use Rattle.request.specs.Shape.{top, buckets, ladder, ladders, ladderAt, cells, labelCount}
 use Rattle.request.specs.Rows.{rows}
-use Rattle.request.specs.Accepted.{Accepted, Regular, Small, Fits}
+use Rattle.request.specs.Accepted.{Accepted}
 use Rattle.request.specs.Answer.{shapeOf, Ladders}
 use Rattle.request.specs.declared.Request.{Request}
-use Rattle.request.specs.declared.Refusal.{Refusal}
 use Rattle.request.specs.declared.Shape.{Shape}
 use Rattle.request.proofs.Accepted.{accepted-regular, accepted-small, accepted-fits}
 use Rattle.request.proofs.Answers.{cells-few}
@@ -30,10 +28,9 @@ use Rattle.request.proofs.Counts.{count-in}
 use Rattle.request.proofs.Ladders.{ladders-length}
 use Rattle.request.proofs.Tests.{lt-holds, lt-fails}
 use Rattle.request.proofs.Tops.{top-le}
-use Rattle.rounds.specs.Rounds.{span, table, tries}
+use Rattle.rounds.specs.Rounds.{table, tries}
 use Rattle.tries.specs.declared.Frame.{Frame}
-use Rattle.tries.specs.Frame.{Sized, Framed}
-use Rattle.table.specs.declared.Built.{Built}
+use Rattle.tries.specs.Frame.{Framed}
 use Rattle.table.specs.declared.Built.the-variants as built
 use Rattle.table.specs.Build.{buildRows, answer, builtOf, laddersAfter, labelsAfter, frameOf, ladderWords}
 use Rattle.rounds.proofs.Table.{table-words}

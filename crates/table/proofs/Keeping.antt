@@ -1,8 +1,7 @@
 -- The kept layer, label by label. Assumes nothing.
-use Prim.Native.Nat.{ℕ, zero, suc, _+_, _-_, _*_, _≤_, _<_}
+use Prim.Native.Nat.{ℕ, _+_, _*_, _≤_, _<_}
 use mathlib.Core.Path.{_≡_, refl, sym, ap, _∙_}
-use mathlib.Core.Bool.{Bool, cond}
-use mathlib.Core.List.{List, [], _∷_, _++_}
+use mathlib.Core.List.{List, [], _∷_}
 use native.Mathlib.Omega.{arith}
 use lib.ListN.{length, getD, take, length-replicate, length-append}
 use lib.Seq.{length-take-le}
@@ -13,8 +12,8 @@ use Rattle.words.proofs.Pieces.{piece-end, at-length, join-next, join-length, j
 use Rattle.words.proofs.Writes.{length-part, part-part, part-write-below, write-append}
 use Rattle.request.specs.Request.{Req, width}
 use Rattle.request.specs.Shape.{cells}
-use Rattle.rounds.specs.Label.{label, costs, step, filled, empty, kept}
-use Rattle.rounds.specs.Rounds.{span, block, keepCell, keepBlock, keepAll}
+use Rattle.rounds.specs.Label.{costs, step, filled, empty, kept}
+use Rattle.rounds.specs.Rounds.{block, keepCell, keepBlock, keepAll}
 use Rattle.labels.specs.Words.{keepWords}
 
 -- as defined, with d criteria

@@ -1,22 +1,20 @@
 -- A round from the words of one layer, and all layers one after another. Assumes nothing.
-use Prim.Native.Nat.{ℕ, zero, suc, _+_, _-_, _*_, _≤_, _<_, zero-le}
+use Prim.Native.Nat.{ℕ, _+_, _*_, _≤_, _<_, zero-le}
 use mathlib.Core.Path.{_≡_, refl, sym, ap, ap₂, _∙_, subst}
 use mathlib.Core.List.{List, _++_}
-use native.Mathlib.Nat.{mul-assoc, zero-mul, one-mul, add-mul, le-trans, le-of-eq, zero-add, mul-le-mul-right}
+use native.Mathlib.Nat.{zero-mul, one-mul, add-mul, le-of-eq, mul-le-mul-right}
 use native.Mathlib.Numerals.{add-one}
 use native.Mathlib.Omega.{arith}
-use lib.ListN.{length, getD}
-use lib.Dec.{T}
+use lib.ListN.{length}
 use Rattle.words.specs.Loops.{upTo, total}
 use Rattle.words.specs.Pieces.{part, at, write, join}
 use Rattle.words.proofs.Loops.{total-next}
-use Rattle.words.proofs.Pieces.{join-next, join-suc, join-zero, join-length, join-at, piece-end}
+use Rattle.words.proofs.Pieces.{join-next, join-suc, join-zero, join-length, join-at}
 use Rattle.words.proofs.Writes.{length-part, length-write, part-write-same, part-write-below, part-write-inside, write-part, write-over, write-append}
-use Rattle.request.specs.Request.{Req, width, arcCount, reach}
-use Rattle.request.specs.Shape.{cells, largest, top}
+use Rattle.request.specs.Request.{Req, arcCount, reach}
 use Rattle.request.specs.Accepted.{Regular}
-use Rattle.rounds.specs.Label.{costs, filled}
-use Rattle.rounds.specs.Rounds.{span, block, keepAll, arcStep, round, roundTries, startLayer, layer, table, tries, labelOf, labelAt}
+use Rattle.rounds.specs.Label.{costs}
+use Rattle.rounds.specs.Rounds.{block, keepAll, arcStep, round, roundTries, startLayer, layer, table, tries, labelOf, labelAt}
 use Rattle.rounds.proofs.Round.{keepAll-length, round-length, layer-length}
 use Rattle.rounds.proofs.Start.{startLayer-length}
 use Rattle.rounds.proofs.Table.{table-length}

@@ -3,3 +3,4 @@ pub mod Keeping
 pub mod Passing
 pub mod Layers
 pub mod Building
+pub mod OneArc

@@ -1,17 +1,16 @@
 -- All arcs of a round, arc by arc. Assumes nothing.
-use Prim.Native.Nat.{ℕ, zero, suc, _+_, _-_, _*_, _≤_, _<_, zero-le}
-use mathlib.Core.Path.{_≡_, refl, sym, ap, ap₂, _∙_, subst}
+use Prim.Native.Nat.{ℕ, _+_, _*_, _≤_, _<_, zero-le}
+use mathlib.Core.Path.{_≡_, sym, ap, ap₂, _∙_, subst}
 use mathlib.Core.List.{List}
-use native.Mathlib.Nat.{le-trans, mul-le-mul}
 use native.Mathlib.Omega.{arith}
-use lib.ListN.{length, getD}
+use lib.ListN.{length}
 use Rattle.words.specs.Loops.{upTo, total}
 use Rattle.words.specs.Pieces.{part, at, put, write}
 use Rattle.words.proofs.Loops.{total-zero, total-next, total-le}
-use Rattle.words.proofs.Pieces.{piece-end, put-length, at-length, piece-word}
+use Rattle.words.proofs.Pieces.{piece-end, put-length, at-length}
 use Rattle.words.proofs.Turns.{turned, loop-starts, loop-turns}
 use Rattle.words.proofs.Writes.{length-part, length-write, part-part, part-write-below, write-nest}
-use Rattle.request.specs.Request.{Req, width, arcCount, arc, tail, head}
+use Rattle.request.specs.Request.{Req, arcCount, tail, head}
 use Rattle.request.specs.Shape.{cells}
 use Rattle.request.specs.Accepted.{Regular}
 use Rattle.rounds.specs.Rounds.{span, block, tryArc, arcStep, filledIn, roundTries}

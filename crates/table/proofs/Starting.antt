@@ -1,14 +1,14 @@
 -- Layer 0, block by block. Assumes nothing.
-use Prim.Native.Nat.{ℕ, zero, suc, _+_, _-_, _*_, _≤_, _<_}
+use Prim.Native.Nat.{ℕ, zero, suc, _+_, _*_, _≤_}
 use mathlib.Core.Path.{_≡_, refl, sym, ap, _∙_}
 use mathlib.Core.Bool.{Bool, true, false, cond}
-use mathlib.Core.List.{List, [], _∷_, _++_, append-assoc}
-use native.Mathlib.Nat.{zero-mul, suc-inj}
+use mathlib.Core.List.{List, [], _∷_, _++_}
+use native.Mathlib.Nat.{zero-mul}
 use native.Mathlib.Omega.{arith}
-use lib.ListN.{length, getD, set, take, drop, replicate, length-set, length-replicate, length-append}
+use lib.ListN.{length, set, take, drop, replicate, length-set, length-replicate}
 use lib.Dec.{eqb}
 use Rattle.words.specs.Pieces.{part, put, write, join}
-use Rattle.words.proofs.Pieces.{join-next, join-length, join-ext, piece-end}
+use Rattle.words.proofs.Pieces.{join-next, join-length, join-ext}
 use Rattle.words.proofs.Writes.{length-part, lent-behind}
 use Rattle.request.specs.Request.{Req, width}
 use Rattle.rounds.specs.Label.{label, start}

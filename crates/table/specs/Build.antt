@@ -10,7 +10,6 @@ use Rattle.words.specs.Rows.{Row, Weighed, clear, refused, weigh, settle}
 use Rattle.request.specs.Request.{Req, width}
 use Rattle.request.specs.Shape.{ladders, labelCount}
 use Rattle.request.specs.Rows.{rows}
-use Rattle.request.specs.declared.Refusal.{Refusal}
 use Rattle.request.specs.declared.Request.{Request}
 use Rattle.request.specs.declared.Shape.{Shape}
 use Rattle.tries.specs.declared.Frame.{Frame}

@@ -1,14 +1,14 @@
 -- The tries of one arc, cell by cell. Assumes nothing.
-use Prim.Native.Nat.{ℕ, zero, suc, _+_, _-_, _*_, _≤_, _<_, zero-le}
+use Prim.Native.Nat.{ℕ, zero, suc, _+_, _≤_, _<_, zero-le}
 use mathlib.Core.Path.{_≡_, refl, sym, ap, _∙_, subst}
 use mathlib.Core.List.{List, [], _∷_}
 use native.Mathlib.Omega.{arith}
 use lib.ListN.{length, getD}
-use Rattle.words.specs.Loops.{upTo, total}
+use Rattle.words.specs.Loops.{total}
 use Rattle.words.specs.Pieces.{part, at, write}
 use Rattle.words.proofs.Loops.{total-zero, total-next}
-use Rattle.words.proofs.Turns.{turned, loop-starts, loop-long, loop-turns}
-use Rattle.words.proofs.Writes.{length-part, length-write, part-write-below}
+use Rattle.words.proofs.Turns.{turned, loop-starts, loop-turns}
+use Rattle.words.proofs.Writes.{length-write, part-write-below}
 use Rattle.request.specs.Request.{Req, width}
 use Rattle.request.specs.Shape.{cells, buckets}
 use Rattle.request.proofs.Tops.{buckets-pos}

@@ -1,21 +1,20 @@
 -- The sizes of a frame are the request's, and what lies where in the buffers. Assumes nothing.
-use Prim.Native.Nat.{ℕ, zero, suc, _+_, _-_, _*_, _^_, _≤_, _<_}
-use mathlib.Core.Path.{_≡_, refl, sym, ap, ap₂, _∙_, subst}
+use Prim.Native.Nat.{ℕ, _+_, _-_, _*_, _≤_, _<_}
+use mathlib.Core.Path.{_≡_, sym, ap, ap₂, _∙_, subst}
 use mathlib.Core.List.{List}
 use native.Mathlib.Nat.{le-trans, pow-le-pow-right}
 use native.Mathlib.Omega.{arith}
-use lib.Dec.{T, lit<}
-use lib.ListN.{length, getD, take, drop, length-take}
-use Rattle.words.specs.Loops.{total}
+use lib.Dec.{lit<}
+use lib.ListN.{length, getD, length-take}
 use Rattle.words.specs.Pieces.{part, at}
 use Rattle.words.specs.Radix.{volume, radix}
 use Rattle.words.proofs.Loops.{total-ext}
 use Rattle.words.proofs.Pieces.{piece-end}
 use Rattle.words.proofs.Radix.{volume-ext, volume-pow, radix-ext, radix-base}
-use Rattle.words.proofs.Writes.{part-part, length-part}
-use Rattle.fences.specs.Answer.{Bracket, Slot}
-use Rattle.request.specs.Request.{Req, width, arcCount, arc, arcCosts}
-use Rattle.request.specs.Shape.{buckets, cells, cell, position, top, largest, ladder, ladders, ladderAt}
+use Rattle.words.proofs.Writes.{part-part}
+use Rattle.fences.specs.Answer.{Slot}
+use Rattle.request.specs.Request.{Req, width, arc}
+use Rattle.request.specs.Shape.{buckets, cells, cell, position, top, ladder, ladders, ladderAt}
 use Rattle.request.proofs.Ladders.{ladders-length, ladders-part, ladder-inside, in-ladder, place-position}
 use Rattle.rounds.specs.Rounds.{span}
 use Rattle.labels.specs.Words.{offset, ladderIn, Seeks, Found-at}

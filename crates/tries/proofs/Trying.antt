@@ -1,12 +1,11 @@
 -- One try, from the words of two blocks: where the label is empty, and where it is filled. Assumes nothing.
 use Prim.Native.Nat.{ℕ, _+_, _-_, _*_, _≤_, _<_}
 use mathlib.Core.Path.{_≡_, refl, sym, ap, ap₂, _∙_, subst}
-use mathlib.Core.Bool.{Bool, true, false, cond, not, _||_}
+use mathlib.Core.Bool.{Bool, true, false, cond}
 use mathlib.Core.List.{List}
-use native.Mathlib.Nat.{add-comm, le-trans}
+use native.Mathlib.Nat.{add-comm}
 use native.Mathlib.Omega.{arith}
 use lib.ListN.{length, getD, take, drop}
-use lib.Dec.{T, ltb}
 use borrow.Author.Tests.{lt-ltb, le-ltb}
 use Rattle.words.specs.Pieces.{part, at, put, write}
 use Rattle.words.proofs.Choices.{true-is}
@@ -14,15 +13,15 @@ use Rattle.words.proofs.Writes.{length-part, getD-part, write-part}
 use Rattle.words.proofs.Pieces.{at-length, piece-end}
 use Rattle.request.specs.declared.Request.{Request}
 use Rattle.request.specs.Request.{Req, asked, width, arcCount, arc, arcCosts}
-use Rattle.request.specs.Shape.{cells, cell, largest, top}
+use Rattle.request.specs.Shape.{cells, cell, top}
 use Rattle.request.proofs.Tops.{arc-le, top-le, cost-at}
 use Rattle.request.proofs.Cells.{cell-ext}
 use Rattle.rounds.specs.Label.{label, sum, costs, step, filled, candidate, came, wins}
 use Rattle.rounds.specs.Rounds.{span, offer, tryCell, bit}
-use Rattle.rounds.proofs.Labels.{getD-sum, candidate-length, came-length, came-costs, cost-word}
+use Rattle.rounds.proofs.Labels.{getD-sum, came-length, came-costs, cost-word}
 use Rattle.labels.specs.Words.{winsOver, Found-at}
 use Rattle.tries.specs.declared.Frame.{Frame}
-use Rattle.tries.specs.Frame.{offered, extended, Sized, Extends, Framed, Room, Apart, Hinted}
+use Rattle.tries.specs.Frame.{offered, extended, Extends, Framed, Room, Apart, Hinted}
 use Rattle.tries.proofs.Frames.{width-is, span-is, label-is, arc-is, volume-is, can-seek, cell-is, found-hints}
 
 -- ---- on words, and as defined

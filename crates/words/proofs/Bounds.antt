@@ -2,7 +2,7 @@
 use Prim.Native.Nat.{ℕ, zero, suc, _+_, _≤_, zero-le}
 use native.Mathlib.Nat.{le-trans}
 use mathlib.Core.List.{List, [], _∷_, _++_}
-use lib.ListN.{getD, set, take, drop, replicate}
+use lib.ListN.{getD, take, drop, replicate}
 use lib.Seq.{getD-drop}
 use Rattle.words.specs.Pieces.{part, write}
 use Rattle.words.specs.Bounds.{AtMost}

@@ -1,14 +1,13 @@
 -- One law for every refusal table: an answer is row k's refusal exactly when row k holds and none before it does. Assumes nothing.
-use Prim.Native.Nat.{ℕ, zero, suc, _+_, _≤_, _<_, zero-le, suc-le-suc}
+use Prim.Native.Nat.{ℕ, zero, suc, _≤_, _<_, zero-le, suc-le-suc}
 use mathlib.Core.Path.{_≡_, refl, sym, ap, _∙_, subst}
 use mathlib.Core.Bool.{Bool, true, false, cond, not}
 use mathlib.Core.List.{List, [], _∷_, _++_}
 use mathlib.Core.Logic.{⊎-elim}
 use native.Mathlib.Nat.{le-refl, le-step, eq-or-lt-of-le, not-suc-le-zero, le-of-suc-le-suc, le-antisymm, lt-of-not-le}
 use native.Mathlib.Omega.{arith}
-use lib.ListN.{length, getD}
 use lib.Dec.{T, T-not}
-use Rattle.words.specs.Rows.{Row, Weighed, clear, refused, weigh, each, row, Decides, NoneHolds}
+use Rattle.words.specs.Rows.{Row, clear, refused, weigh, each, row, Decides, NoneHolds}
 use Rattle.words.specs.Loops.{upTo}
 
 -- ---- the front row

@@ -1,6 +1,6 @@
 -- Writes over a part of a list: what they leave, what they cover, how they nest and follow one another. Assumes nothing.
 use Prim.Native.Nat.{ℕ, zero, suc, _+_, _≤_, _<_}
-use native.Mathlib.Nat.{le-of-suc-le-suc, suc-add, zero-add, suc-inj}
+use native.Mathlib.Nat.{le-of-suc-le-suc, suc-add, zero-add}
 use native.Mathlib.Numerals.{add-one}
 use native.Mathlib.Omega.{arith}
 use mathlib.Core.Path.{_≡_, refl, sym, ap, _∙_}

@@ -1,11 +1,9 @@
 -- `count`. The loop's invariant: b is fence j, at most the top. Assumes nothing.
 use mathlib.Core.Path.{_≡_, sym, ap, _∙_, subst}
 use Prim.Native.Nat.{ℕ, _+_, _-_, _≤_, _<_}
-use native.Mathlib.Numerals.{add-one}
 use native.Mathlib.Omega.{arith}
-use Rattle.fences.specs.Fence.{next, fence, HasPosition, position, buckets}
+use Rattle.fences.specs.Fence.{next, fence, HasPosition, buckets}
 use Rattle.fences.specs.Answer.{bucketsOf}
-use Rattle.fences.specs.declared.Buckets.{Buckets}
 use Rattle.fences.specs.declared.Buckets.the-variants.{Count, Over}
 use Rattle.fences.proofs.Fences.{position-is, le-position, fence-zero, fence-suc, fence-next, buckets-is}
 use Rattle.fences.proofs.Answers.{counted, over}

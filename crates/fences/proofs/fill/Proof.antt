@@ -1,12 +1,11 @@
 -- `fill`. The loop's invariant: b is fence k, the first k words are the fences and the others are as they were. Assumes nothing.
-use mathlib.Core.Path.{_≡_, refl, sym, ap, _∙_, subst}
+use mathlib.Core.Path.{_≡_, refl, sym, ap, _∙_}
 use mathlib.Core.List.{List, _++_, append-nil}
-use Prim.Native.Nat.{ℕ, _+_, _-_, _≤_, _<_, zero-le}
+use Prim.Native.Nat.{ℕ, _-_, _≤_, zero-le}
 use native.Mathlib.Omega.{arith}
-use borrow.Author.Needs.{needs}
-use lib.ListN.{length, drop, set, length-set}
+use lib.ListN.{length, drop, length-set}
 use lib.Seq.{drop-length}
-use Rattle.fences.specs.Fence.{next, fence, fences, buckets}
+use Rattle.fences.specs.Fence.{next, fence, fences}
 use Rattle.fences.proofs.Fences.{fence-zero, fence-next, ladder-words}
 use Rattle.fences.proofs.Ladders.{fences-none, fences-store}
 use Rattle.fences.proofs.fill.Statement.{statement}

@@ -1,8 +1,8 @@
 -- `add_costs`. The loop's invariant: the first k words are the sums, the others as they were. Assumes nothing.
-use mathlib.Core.Path.{_≡_, refl, sym, ap, _∙_}
-use Prim.Native.Nat.{ℕ, _+_, _-_, _≤_, _<_, zero-le}
-use mathlib.Core.List.{List, _++_}
-use lib.ListN.{length, getD, set, take, drop, length-set}
+use mathlib.Core.Path.{_≡_, refl, ap, _∙_}
+use Prim.Native.Nat.{ℕ, _-_, _≤_, zero-le}
+use mathlib.Core.List.{_++_}
+use lib.ListN.{length, set, take, drop, length-set}
 use Rattle.labels.proofs.Candidates.{sums, one-sum, step-and-from}
 use borrow.Author.Needs.{needs}
 use native.Mathlib.Omega.{arith}

@@ -1,8 +1,8 @@
 -- `find_cell`. The loop's invariant: the criteria before j are found (`Upto`). Assumes nothing.
-use mathlib.Core.Path.{_≡_, refl, sym, ap, _∙_, subst}
-use Prim.Native.Nat.{ℕ, _+_, _-_, _*_, _≤_, _<_, zero-le}
+use mathlib.Core.Path.{_≡_, sym, ap, _∙_, subst}
+use Prim.Native.Nat.{ℕ, _-_}
 use mathlib.Core.List.{List}
-use lib.ListN.{length, getD}
+use lib.ListN.{getD}
 use Rattle.words.specs.Radix.{radix}
 use Rattle.fences.specs.Answer.{Bracket}
 use Rattle.labels.proofs.Finding.{Upto, none-yet, room, lent-ladder, lent-length, product, found-lt, one-more}

@@ -1,7 +1,6 @@
 -- `keep`: an empty label clears its place, a filled one is kept. Assumes nothing.
-use mathlib.Core.Path.{_≡_, refl, sym, ap, _∙_}
+use mathlib.Core.Path.{_∙_}
 use Prim.Native.Nat.{_+_, _-_}
-use Rattle.words.proofs.Writes.{length-write}
 use Rattle.labels.proofs.Keeping.{keep-empty, keep-filled}
 use borrow.Author.Needs.{needs}
 use native.Mathlib.Omega.{arith}

@@ -1,8 +1,8 @@
 -- `keep_costs`. The loop's invariant: k costs are written. Assumes nothing.
 use mathlib.Core.Path.{_≡_, refl, sym, ap, _∙_}
-use Prim.Native.Nat.{ℕ, _+_, _-_, _≤_, _<_, zero-le}
+use Prim.Native.Nat.{ℕ, _+_, _-_, _≤_, zero-le}
 use mathlib.Core.List.{List}
-use lib.ListN.{length, getD, set, length-set}
+use lib.ListN.{length, set, length-set}
 use Rattle.words.specs.Pieces.{part, write}
 use Rattle.words.proofs.Writes.{write-part}
 use Rattle.labels.proofs.Keeping.{one-cost, two-more}

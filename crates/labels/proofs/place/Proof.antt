@@ -1,7 +1,6 @@
 -- `place`: the candidate where it wins, else the cell as it was. Assumes nothing.
-use mathlib.Core.Path.{_≡_, refl, sym, ap, _∙_}
+use mathlib.Core.Path.{sym, ap, _∙_}
 use mathlib.Core.Bool.{Bool, cond}
-use Rattle.labels.specs.Words.{winsOver}
 use borrow.Author.Needs.{needs}
 use Rattle.labels.proofs.place.Statement.{statement}
 use Rattle.labels.proofs.place.Tie as tie

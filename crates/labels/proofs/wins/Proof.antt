@@ -1,5 +1,4 @@
 -- `wins`: the cell is empty, or the last costs decide. Assumes nothing.
-use mathlib.Core.Path.{_≡_, refl, sym, ap, _∙_}
 use Rattle.labels.proofs.Places.{wins-empty, wins-filled}
 use borrow.Author.Needs.{needs}
 use Rattle.labels.proofs.wins.Statement.{statement}

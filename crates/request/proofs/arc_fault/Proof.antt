@@ -1,5 +1,5 @@
 -- `arc_fault`: each branch is a part of row 8. Assumes nothing.
-use mathlib.Core.Path.{_≡_, refl, sym, ap, _∙_}
+use mathlib.Core.Path.{sym, _∙_}
 use Rattle.words.proofs.Choices.{true-is, false-is}
 use Rattle.request.proofs.Branches.{fault-tail, fault-head, fault-cost, fault-none}
 use borrow.Author.Needs.{needs}

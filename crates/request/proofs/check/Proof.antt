@@ -1,12 +1,11 @@
 -- `check`: the first of the weighings that refuses decides, and then the shape. Assumes nothing.
-use mathlib.Core.Path.{_≡_, refl, sym, ap, _∙_}
-use Prim.Native.Nat.{ℕ, _+_, _-_, _≤_, _<_}
+use mathlib.Core.Path.{_≡_, ap, _∙_}
+use Prim.Native.Nat.{ℕ, _-_, _≤_}
 use mathlib.Core.Logic.{_⊎_, inl, inr}
 use mathlib.Core.List.{List}
 use lib.ListN.{getD}
 use native.Mathlib.Decide.{ℕ-discrete}
 use Rattle.request.specs.Request.{asked}
-use Rattle.request.specs.Shape.{count}
 use Rattle.request.specs.Answer.{shapedOf}
 use Rattle.request.proofs.Accepted.{regular, small}
 use Rattle.request.proofs.Stages.{was-clear}

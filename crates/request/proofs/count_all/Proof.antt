@@ -1,7 +1,6 @@
 -- `count_all`. The loop's invariant: the counts before criterion j stand, each at most 4,096. Assumes nothing.
 use mathlib.Core.Path.{_≡_, sym, ap, _∙_, subst}
-use Prim.Native.Nat.{ℕ, _+_, _-_, _≤_, _<_, zero-le}
-use mathlib.Core.List.{List}
+use Prim.Native.Nat.{ℕ, _-_, _≤_, zero-le}
 use Rattle.request.specs.declared.Refusal.{Refusal}
 use Rattle.request.specs.declared.Weighing.{Weighing}
 use Rattle.request.specs.declared.Weighing.the-variants as weighing

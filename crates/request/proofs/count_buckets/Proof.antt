@@ -1,12 +1,12 @@
 -- `count_buckets`: the ladder top fits, and the ratio is in range. Assumes nothing.
-use mathlib.Core.Path.{_≡_, refl, sym, ap, _∙_}
+use mathlib.Core.Path.{_≡_, ap, _∙_}
 use Prim.Native.Nat.{ℕ, _+_, _-_, _*_, _≤_, _<_}
 use native.Mathlib.Nat.{mul-le-mul}
 use mathlib.Core.List.{List}
 use lib.ListN.{length, getD}
 use Rattle.fences.specs.Answer.{bucketsOf}
 use Rattle.request.specs.declared.Request.{Request}
-use Rattle.request.specs.Request.{asked, arcCount, ratioP, ratioQ}
+use Rattle.request.specs.Request.{asked, ratioP, ratioQ}
 use Rattle.request.specs.Shape.{top}
 use Rattle.request.specs.Accepted.{Regular, Small}
 use Rattle.request.proofs.Tops.{top-le}

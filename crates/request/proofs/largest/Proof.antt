@@ -1,5 +1,5 @@
 -- `largest`. The loop's invariant: `most` is the largest among the first a arcs. Assumes nothing.
-use mathlib.Core.Path.{_≡_, refl, sym, ap, _∙_}
+use mathlib.Core.Path.{_≡_, sym, ap, _∙_}
 use Prim.Native.Nat.{ℕ, _+_, _-_, _*_, _/_, _≤_, _<_, zero-le, max}
 use mathlib.Core.List.{List}
 use native.Mathlib.Nat.{div-le-self}

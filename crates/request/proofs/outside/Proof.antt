@@ -4,7 +4,6 @@ use mathlib.Core.Bool.{Bool, _||_}
 use lib.Dec.{ltb}
 use borrow.Author.Tests.{lt-ltb, le-ltb}
 use Rattle.request.specs.Rows.{outside}
-use borrow.Author.Needs.{needs}
 use Rattle.request.proofs.outside.Statement.{statement}
 use Rattle.request.proofs.outside.Tie as tie
 

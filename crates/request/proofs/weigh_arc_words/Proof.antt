@@ -1,5 +1,5 @@
 -- `weigh_arc_words`: each branch is a half of row 7. Assumes nothing.
-use mathlib.Core.Path.{_≡_, refl, sym, ap, _∙_}
+use mathlib.Core.Path.{sym, ap, _∙_}
 use Rattle.request.specs.Answer.{said}
 use Rattle.request.proofs.Branches.{words-over, words-many, words-good}
 use borrow.Author.Needs.{needs}

@@ -1,9 +1,8 @@
 -- `weigh_arcs`. The loop's invariant: no arc before arc a is bad. Assumes nothing.
-use mathlib.Core.Path.{_≡_, refl, sym, ap, _∙_}
+use mathlib.Core.Path.{_≡_, sym, ap, _∙_}
 use Prim.Native.Nat.{ℕ, _+_, _-_, _*_, _/_, _≤_, _<_, zero-le}
-use native.Mathlib.Nat.{not-suc-le-zero, le-of-eq}
+use native.Mathlib.Nat.{not-suc-le-zero}
 use mathlib.Core.Bool.{not}
-use mathlib.Core.List.{List}
 use lib.ListN.{length}
 use lib.Dec.{T}
 use Rattle.words.proofs.Loops.{below-next}

@@ -1,6 +1,5 @@
 -- `weigh_asked`: the first of its four weighings that refuses decides. Assumes nothing.
-use mathlib.Core.Path.{_≡_, refl, sym, ap, _∙_}
-use Prim.Native.Nat.{ℕ, _+_, _-_, _*_, _/_, _≤_, _<_}
+use Prim.Native.Nat.{_+_}
 use lib.ListN.{length}
 use Rattle.words.proofs.Rows.{clear-cons}
 use Rattle.request.proofs.Accepted.{sizes-facts, words-facts}

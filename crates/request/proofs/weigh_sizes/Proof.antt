@@ -1,5 +1,5 @@
 -- `weigh_sizes`: each branch is its row. Assumes nothing.
-use mathlib.Core.Path.{_≡_, refl, sym, ap, _∙_}
+use mathlib.Core.Path.{sym, ap, _∙_}
 use Rattle.words.proofs.Choices.{true-is, false-is}
 use Rattle.request.specs.Answer.{said}
 use Rattle.request.proofs.Branches.{sizes-2, sizes-3, sizes-4, sizes-5, sizes-clear}

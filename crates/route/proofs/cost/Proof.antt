@@ -1,15 +1,11 @@
 -- `cost`: a word of the label, or none. Assumes nothing.
-use Prim.Native.Nat.{ℕ, _+_, _-_, _*_, _≤_, _<_}
-use mathlib.Core.Path.{_≡_, refl, sym, ap, _∙_}
-use mathlib.Core.List.{List, [], _∷_}
-use native.Mathlib.Omega.{arith}
-use lib.ListN.{length, getD, take}
+use Prim.Native.Nat.{_-_}
+use mathlib.Core.Path.{sym, _∙_}
 use lib.Seq.{getD-take}
 use Rattle.route.proofs.Reading.{cost-past}
 use borrow.Author.Needs.{needs}
 use Rattle.route.proofs.cost.Statement.{statement}
 use Rattle.route.proofs.cost.Tie as tie
-use Rattle.words.proofs.word.Reads as word-reads
 
 word-requires : tie.Need-word-requires
 word-requires c κs = search needs

@@ -1,9 +1,8 @@
 -- `read_back`: a refusal of the check, or the read-back of the shape. Assumes nothing.
-use Prim.Native.Nat.{ℕ, _+_, _-_, _*_, _≤_, _<_}
-use mathlib.Core.Path.{_≡_, refl, sym, ap, _∙_}
-use mathlib.Core.List.{List, [], _∷_}
+use Prim.Native.Nat.{_-_}
+use mathlib.Core.Path.{sym, _∙_}
 use native.Mathlib.Omega.{arith}
-use lib.ListN.{length, getD, take}
+use lib.ListN.{length}
 use Rattle.request.specs.Request.{asked}
 use Rattle.request.proofs.Answers.{refused-is, shaped-is}
 use Rattle.route.proofs.Numbers.{early-number}
@@ -11,7 +10,6 @@ use Rattle.route.proofs.Answering.{refused-early, refused-all}
 use borrow.Author.Needs.{needs}
 use Rattle.route.proofs.read_back.Statement.{statement}
 use Rattle.route.proofs.read_back.Tie as tie
-use Rattle.request.proofs.check.Reads as check-reads
 
 check-requires : tie.Need-check-requires
 check-requires c κs = search needs
@@ -26,10 +24,19 @@ enum-known-checked-2 : tie.Need-enum-known-checked-2
 enum-known-checked-2 c = search needs
 
 read-shaped-requires : tie.Need-read-shaped-requires
-read-shaped-requires c κs = let a = c .before .before .before .before .before .before .before .before .args in shaped-is (asked (a .request) (a .arcs .now)) _ (sym (c .before .before .checked2 .given .1) ∙ c .before .before .before .before .check .ensures)
+read-shaped-requires c κs =
+    let a = c .before .before .before .before .before .before .before .before .args in
+    shaped-is (asked (a .request) (a .arcs .now)) _ (sym (c .before .before .checked2 .given .1) ∙ c .before .before .before .before .check .ensures)
 
 returns : tie.Need-returns
-returns c = let a = c .before .before .before .before .before .before .before .before .args in let R = asked (a .request) (a .arcs .now) in let W = a .labels .now in let B = a .route .now in let w = refused-is R (c .before .before .checked .given .0 .0) (sym (c .before .before .checked .given .1) ∙ c .before .before .before .before .check .ensures) in let r = refused-all R W B (a .layer) (a .node) (a .cell) _ _ (c .refuse .ensures .1) _ _ (refused-early R W (length B) (a .layer) (a .node) (a .cell) _ _ w) (λ z. let n = early-number R _ _ w in absurd (omega arith)) (c .refuse .ensures .0) in (r .0, (r .1, r .2))
+returns c =
+    let a = c .before .before .before .before .before .before .before .before .args in
+    let R = asked (a .request) (a .arcs .now) in
+    let W = a .labels .now in
+    let B = a .route .now in
+    let w = refused-is R (c .before .before .checked .given .0 .0) (sym (c .before .before .checked .given .1) ∙ c .before .before .before .before .check .ensures) in
+    let r = refused-all R W B (a .layer) (a .node) (a .cell) _ _ (c .refuse .ensures .1) _ _ (refused-early R W (length B) (a .layer) (a .node) (a .cell) _ _ w) (λ z. let n = early-number R _ _ w in absurd (omega arith)) (c .refuse .ensures .0) in
+    (r .0, (r .1, r .2))
 
 same-length : tie.Need-same-length
 same-length c = search needs

@@ -1,7 +1,5 @@
 -- `block_at`: 64 blocks of at most 6,000,000 words. Assumes nothing.
-use mathlib.Core.Path.{_≡_, refl, sym, ap, _∙_}
 use native.Mathlib.Nat.{mul-le-mul}
-use Prim.Native.Nat.{ℕ, _*_, _≤_}
 use borrow.Author.Needs.{needs}
 use native.Mathlib.Omega.{arith}
 use Rattle.table.proofs.block_at.Statement.{statement}

@@ -1,5 +1,5 @@
 -- `build`: a refusal of the check, or the build of the shape. Assumes nothing.
-use mathlib.Core.Path.{_≡_, sym, ap, _∙_}
+use mathlib.Core.Path.{sym, _∙_}
 use lib.ListN.{length}
 use Rattle.request.specs.Request.{asked}
 use Rattle.request.proofs.Answers.{refused-is, shaped-is}

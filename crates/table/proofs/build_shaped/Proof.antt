@@ -1,20 +1,19 @@
 -- `build_shaped`: each branch is a row of 13, and then all is written. Assumes nothing.
-use mathlib.Core.Path.{_≡_, refl, sym, ap, _∙_, subst}
-use Prim.Native.Nat.{ℕ, _+_, _-_, _*_, _≤_, _<_}
+use mathlib.Core.Path.{_≡_, sym, ap, _∙_, subst}
+use Prim.Native.Nat.{ℕ, _+_, _-_, _*_, _≤_}
 use native.Mathlib.Nat.{mul-le-mul}
 use mathlib.Core.List.{List, [], _∷_}
 use lib.ListN.{length, getD}
 use Rattle.words.specs.Pieces.{write, join}
 use Rattle.fences.specs.Fence.{fences}
 use Rattle.request.specs.declared.Request.{Request}
-use Rattle.request.specs.Request.{asked, width}
-use Rattle.request.specs.Shape.{ladders, labelCount}
+use Rattle.request.specs.Request.{asked}
+use Rattle.request.specs.Shape.{ladders}
 use Rattle.request.specs.Accepted.{Accepted}
 use Rattle.request.specs.Answer.{shapeOf, Ladders}
 use Rattle.request.specs.declared.Shape.{Shape}
 use Rattle.request.proofs.Accepted.{accepted-fits}
 use Rattle.rounds.specs.Rounds.{table, tries}
-use Rattle.tries.specs.Frame.{Framed}
 use Rattle.table.specs.declared.Built.the-variants as built
 use Rattle.table.proofs.Building.{short-ladders, short-labels, all-clear, refused-all, built-all, criteria-in, cells-small, shape-labels, ladder-room, table-room, can-fill, filled-ladders, framed-by, request-by, criteria-by, width-by}
 use borrow.Author.Needs.{needs}

@@ -1,7 +1,7 @@
 -- `frame`: the fields are the definition's, and the product fits. Assumes nothing.
 use mathlib.Core.Path.{refl}
 use native.Mathlib.Nat.{mul-le-mul}
-use Prim.Native.Nat.{ℕ, _+_, _*_, _≤_}
+use Prim.Native.Nat.{ℕ, _+_, _≤_}
 use Rattle.table.specs.Build.{frameOf}
 use borrow.Author.Needs.{needs}
 use native.Mathlib.Omega.{arith}

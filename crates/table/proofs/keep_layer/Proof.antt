@@ -1,6 +1,6 @@
 -- `keep_layer`. The loop's invariant: the labels before j are kept, and `at` and `to` stand at label j. Assumes nothing.
-use mathlib.Core.Path.{_≡_, refl, sym, ap, _∙_}
-use Prim.Native.Nat.{ℕ, _+_, _-_, _*_, _≤_, _<_, zero-le}
+use mathlib.Core.Path.{_≡_, sym, ap, _∙_}
+use Prim.Native.Nat.{ℕ, _+_, _-_, _*_, _≤_, zero-le}
 use native.Mathlib.Nat.{zero-mul, add-mul, one-mul}
 use mathlib.Core.List.{List}
 use lib.ListN.{length}

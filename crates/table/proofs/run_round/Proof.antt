@@ -1,13 +1,12 @@
 -- `run_round`: keeping, then passing the arcs, is the round. Assumes nothing.
 use mathlib.Core.Path.{_≡_, ap, ap₂, _∙_}
-use Prim.Native.Nat.{ℕ, _+_, _-_, _*_, _≤_, _<_}
+use Prim.Native.Nat.{ℕ, _+_, _*_}
 use native.Mathlib.Nat.{mul-assoc, mul-le-mul}
 use mathlib.Core.List.{List}
-use lib.ListN.{length}
 use Rattle.words.specs.Pieces.{part, at, write, join}
 use Rattle.request.specs.Request.{asked, width}
 use Rattle.request.specs.Shape.{cells}
-use Rattle.rounds.specs.Rounds.{span, keepAll}
+use Rattle.rounds.specs.Rounds.{keepAll}
 use Rattle.tries.specs.declared.Frame.{Frame}
 use Rattle.tries.specs.Frame.{Framed}
 use Rattle.labels.specs.Words.{keepWords}

@@ -1,13 +1,12 @@
 -- `run_rounds`. The loop's invariant: layers 0 to i stand at the front (`Drawn`). Assumes nothing.
 use mathlib.Core.Path.{_≡_, sym, ap, _∙_, subst}
-use Prim.Native.Nat.{ℕ, _+_, _-_, _*_, _≤_, _<_}
-use native.Mathlib.Nat.{mul-le-mul, le-trans}
+use Prim.Native.Nat.{ℕ, _+_, _-_, _*_, _≤_}
+use native.Mathlib.Nat.{mul-le-mul}
 use mathlib.Core.List.{List}
-use lib.ListN.{length}
 use Rattle.words.specs.Pieces.{part, write}
 use Rattle.request.specs.Request.{asked, arcCount}
 use Rattle.request.specs.Shape.{cells}
-use Rattle.rounds.specs.Rounds.{round, roundTries}
+use Rattle.rounds.specs.Rounds.{round}
 use Rattle.rounds.proofs.Tries.{roundTries-le, tries-le}
 use Rattle.tries.specs.declared.Frame.{Frame}
 use Rattle.tries.specs.Frame.{Framed}

@@ -1,9 +1,9 @@
 -- `start_block`: zeros, and the step word of a start. Assumes nothing.
-use mathlib.Core.Path.{_≡_, refl, sym, ap, _∙_}
+use mathlib.Core.Path.{_≡_, sym, ap, _∙_}
 use Prim.Native.Nat.{ℕ}
 use mathlib.Core.Bool.{Bool, true, false, cond}
 use mathlib.Core.List.{List}
-use lib.ListN.{length, set, replicate, length-set}
+use lib.ListN.{length, set, replicate}
 use Rattle.table.specs.Build.{startWords}
 use borrow.Author.Needs.{needs}
 use Rattle.table.proofs.start_block.Statement.{statement}

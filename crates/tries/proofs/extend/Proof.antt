@@ -1,6 +1,6 @@
 -- `extend`: the scratch words hold the candidate, which is offered. Assumes nothing.
 use mathlib.Core.Path.{_≡_, sym, ap, _∙_, subst}
-use Prim.Native.Nat.{ℕ, _+_, _-_, _*_, _≤_, _<_}
+use Prim.Native.Nat.{ℕ, _+_, _-_, _*_, _≤_}
 use mathlib.Core.List.{List, [], _∷_, _++_}
 use lib.ListN.{length, getD, take, drop, length-append}
 use lib.Seq.{length-take-le, take-at}
@@ -15,68 +15,16 @@ use Rattle.tries.proofs.extend.Statement.{statement}
 use Rattle.tries.proofs.extend.Tie as tie
 
 add-end : tie.Need-add-end
-add-end c =
-    let a = c .before .before .before .args in
-    let z = c .before .before .before .pre .0 in
-    let x = c .before .before .before .pre .1 in
-    let w = z .words in
-    let m = z .small in
-    let k = z .few in
-    let h0 = z .whole in
-    let h1 = x .below in
-    let h2 = x .inside in
-    let h3 = x .in-arcs in
-    let h4 = x .arcs-few in
-    let h5 = x .cells-few in
-    omega arith
+add-end c = omega (arith, c .before .before .before .pre .0, c .before .before .before .pre .1)
 
 mul-arc-at : tie.Need-mul-arc-at
-mul-arc-at c =
-    let a = c .before .before .before .args in
-    let z = c .before .before .before .pre .0 in
-    let x = c .before .before .before .pre .1 in
-    let w = z .words in
-    let m = z .small in
-    let k = z .few in
-    let h0 = z .whole in
-    let h1 = x .below in
-    let h2 = x .inside in
-    let h3 = x .in-arcs in
-    let h4 = x .arcs-few in
-    let h5 = x .cells-few in
-    omega arith
+mul-arc-at c = omega (arith, c .before .before .before .pre .0, c .before .before .before .pre .1)
 
 add-arc-end : tie.Need-add-arc-end
-add-arc-end c =
-    let a = c .before .before .before .args in
-    let z = c .before .before .before .pre .0 in
-    let x = c .before .before .before .pre .1 in
-    let w = z .words in
-    let m = z .small in
-    let k = z .few in
-    let h0 = z .whole in
-    let h1 = x .below in
-    let h2 = x .inside in
-    let h3 = x .in-arcs in
-    let h4 = x .arcs-few in
-    let h5 = x .cells-few in
-    omega arith
+add-arc-end c = omega (arith, c .before .before .before .pre .0, c .before .before .before .pre .1)
 
 array-borrow-prefix-cand : tie.Need-array-borrow-prefix-cand
-array-borrow-prefix-cand c =
-    let a = c .before .before .before .args in
-    let z = c .before .before .before .pre .0 in
-    let x = c .before .before .before .pre .1 in
-    let w = z .words in
-    let m = z .small in
-    let k = z .few in
-    let h0 = z .whole in
-    let h1 = x .below in
-    let h2 = x .inside in
-    let h3 = x .in-arcs in
-    let h4 = x .arcs-few in
-    let h5 = x .cells-few in
-    omega arith
+array-borrow-prefix-cand c = omega (arith, c .before .before .before .pre .0, c .before .before .before .pre .1)
 
 slice-aggregate-add-costs : tie.Need-slice-aggregate-add-costs
 slice-aggregate-add-costs c =
@@ -88,20 +36,7 @@ slice-aggregate-add-costs c =
     sym (length-take-le (a .s .w) (0 ∷ 0 ∷ 0 ∷ 0 ∷ 0 ∷ []) (omega arith))
 
 mul-add-costs : tie.Need-mul-add-costs
-mul-add-costs c =
-    let a = c .before .before .before .before .args in
-    let z = c .before .before .before .before .pre .0 in
-    let x = c .before .before .before .before .pre .1 in
-    let w = z .words in
-    let m = z .small in
-    let k = z .few in
-    let h0 = z .whole in
-    let h1 = x .below in
-    let h2 = x .inside in
-    let h3 = x .in-arcs in
-    let h4 = x .arcs-few in
-    let h5 = x .cells-few in
-    omega arith
+mul-add-costs c = omega (arith, c .before .before .before .before .pre .0, c .before .before .before .before .pre .1)
 
 sub-add-costs : tie.Need-sub-add-costs
 sub-add-costs c = search needs
@@ -110,36 +45,10 @@ part-add-costs-start : tie.Need-part-add-costs-start
 part-add-costs-start c = search needs
 
 part-add-costs-end : tie.Need-part-add-costs-end
-part-add-costs-end c =
-    let a = c .before .before .before .before .before .args in
-    let z = c .before .before .before .before .before .pre .0 in
-    let x = c .before .before .before .before .before .pre .1 in
-    let w = z .words in
-    let m = z .small in
-    let k = z .few in
-    let h0 = z .whole in
-    let h1 = x .below in
-    let h2 = x .inside in
-    let h3 = x .in-arcs in
-    let h4 = x .arcs-few in
-    let h5 = x .cells-few in
-    omega arith
+part-add-costs-end c = omega (arith, c .before .before .before .before .before .pre .0, c .before .before .before .before .before .pre .1)
 
 mul-add-costs-2 : tie.Need-mul-add-costs-2
-mul-add-costs-2 c =
-    let a = c .before .before .before .before .before .before .args in
-    let z = c .before .before .before .before .before .before .pre .0 in
-    let x = c .before .before .before .before .before .before .pre .1 in
-    let w = z .words in
-    let m = z .small in
-    let k = z .few in
-    let h0 = z .whole in
-    let h1 = x .below in
-    let h2 = x .inside in
-    let h3 = x .in-arcs in
-    let h4 = x .arcs-few in
-    let h5 = x .cells-few in
-    omega arith
+mul-add-costs-2 c = omega (arith, c .before .before .before .before .before .before .pre .0, c .before .before .before .before .before .before .pre .1)
 
 sub-add-costs-2 : tie.Need-sub-add-costs-2
 sub-add-costs-2 c = search needs
@@ -148,68 +57,16 @@ part-add-costs-start-2 : tie.Need-part-add-costs-start-2
 part-add-costs-start-2 c = search needs
 
 part-add-costs-end-2 : tie.Need-part-add-costs-end-2
-part-add-costs-end-2 c =
-    let a = c .before .before .before .before .before .before .args in
-    let z = c .before .before .before .before .before .before .pre .0 in
-    let x = c .before .before .before .before .before .before .pre .1 in
-    let w = z .words in
-    let m = z .small in
-    let k = z .few in
-    let h0 = z .whole in
-    let h1 = x .below in
-    let h2 = x .inside in
-    let h3 = x .in-arcs in
-    let h4 = x .arcs-few in
-    let h5 = x .cells-few in
-    omega arith
+part-add-costs-end-2 c = omega (arith, c .before .before .before .before .before .before .pre .0, c .before .before .before .before .before .before .pre .1)
 
 add-add-costs : tie.Need-add-add-costs
-add-add-costs c =
-    let a = c .before .before .before .before .before .before .before .args in
-    let z = c .before .before .before .before .before .before .before .pre .0 in
-    let x = c .before .before .before .before .before .before .before .pre .1 in
-    let w = z .words in
-    let m = z .small in
-    let k = z .few in
-    let h0 = z .whole in
-    let h1 = x .below in
-    let h2 = x .inside in
-    let h3 = x .in-arcs in
-    let h4 = x .arcs-few in
-    let h5 = x .cells-few in
-    omega arith
+add-add-costs c = omega (arith, c .before .before .before .before .before .before .before .pre .0, c .before .before .before .before .before .before .before .pre .1)
 
 cast-add-costs : tie.Need-cast-add-costs
-cast-add-costs c =
-    let a = c .before .before .before .before .before .before .before .args in
-    let z = c .before .before .before .before .before .before .before .pre .0 in
-    let x = c .before .before .before .before .before .before .before .pre .1 in
-    let w = z .words in
-    let m = z .small in
-    let k = z .few in
-    let h0 = z .whole in
-    let h1 = x .below in
-    let h2 = x .inside in
-    let h3 = x .in-arcs in
-    let h4 = x .arcs-few in
-    let h5 = x .cells-few in
-    omega arith
+cast-add-costs c = omega (arith, c .before .before .before .before .before .before .before .pre .0, c .before .before .before .before .before .before .before .pre .1)
 
 cast-add-costs-2 : tie.Need-cast-add-costs-2
-cast-add-costs-2 c =
-    let a = c .before .before .before .before .before .before .before .args in
-    let z = c .before .before .before .before .before .before .before .pre .0 in
-    let x = c .before .before .before .before .before .before .before .pre .1 in
-    let w = z .words in
-    let m = z .small in
-    let k = z .few in
-    let h0 = z .whole in
-    let h1 = x .below in
-    let h2 = x .inside in
-    let h3 = x .in-arcs in
-    let h4 = x .arcs-few in
-    let h5 = x .cells-few in
-    omega arith
+cast-add-costs-2 c = omega (arith, c .before .before .before .before .before .before .before .pre .0, c .before .before .before .before .before .before .before .pre .1)
 
 add-costs-requires : tie.Need-add-costs-requires
 add-costs-requires c κs =

@@ -1,8 +1,6 @@
 -- `label_at`: the product stays within the block. Assumes nothing.
-use mathlib.Core.Path.{_≡_, refl, sym, ap, _∙_}
-use Prim.Native.Nat.{ℕ, _+_, _*_, _≤_, _<_}
+use mathlib.Core.Path.{refl}
 use Rattle.words.proofs.Pieces.{piece-end}
-use borrow.Author.Needs.{needs}
 use native.Mathlib.Omega.{arith}
 use Rattle.tries.proofs.label_at.Statement.{statement}
 use Rattle.tries.proofs.label_at.Tie as tie

@@ -1,8 +1,6 @@
 -- `offer`: one cell's words are lent to `place`. Assumes nothing.
-use mathlib.Core.Path.{_≡_, refl, sym, ap, _∙_}
-use Prim.Native.Nat.{ℕ, _+_, _-_, _*_, _≤_, _<_}
-use mathlib.Core.List.{List}
-use lib.ListN.{length}
+use mathlib.Core.Path.{_≡_, ap, _∙_}
+use Prim.Native.Nat.{ℕ, _+_, _-_, _*_}
 use Rattle.words.proofs.Writes.{length-part}
 use Rattle.tries.proofs.Offering.{offer-law}
 use borrow.Author.Needs.{needs}
@@ -14,37 +12,13 @@ label-at-requires : tie.Need-label-at-requires
 label-at-requires c κs = search needs
 
 add-at : tie.Need-add-at
-add-at c =
-    let a = c .before .before .before .args in
-    let p = c .before .before .before .pre in
-    let z = p .0 in
-    let w = z .words in
-    let m = z .small in
-    let n = z .some in
-    let k = z .few in
-    omega arith
+add-at c = omega (arith, c .before .before .before .pre, c .before .before .before .pre .0)
 
 add-end : tie.Need-add-end
-add-end c =
-    let a = c .before .before .before .before .args in
-    let p = c .before .before .before .before .pre in
-    let z = p .0 in
-    let w = z .words in
-    let m = z .small in
-    let n = z .some in
-    let k = z .few in
-    omega arith
+add-end c = omega (arith, c .before .before .before .before .pre, c .before .before .before .before .pre .0)
 
 mul-place : tie.Need-mul-place
-mul-place c =
-    let a = c .before .before .before .before .args in
-    let p = c .before .before .before .before .pre in
-    let z = p .0 in
-    let w = z .words in
-    let m = z .small in
-    let n = z .some in
-    let k = z .few in
-    omega arith
+mul-place c = omega (arith, c .before .before .before .before .pre, c .before .before .before .before .pre .0)
 
 sub-place : tie.Need-sub-place
 sub-place c = search needs
@@ -53,15 +27,7 @@ part-place-start : tie.Need-part-place-start
 part-place-start c = search needs
 
 part-place-end : tie.Need-part-place-end
-part-place-end c =
-    let a = c .before .before .before .before .args in
-    let p = c .before .before .before .before .pre in
-    let z = p .0 in
-    let w = z .words in
-    let m = z .small in
-    let n = z .some in
-    let k = z .few in
-    omega arith
+part-place-end c = omega (arith, c .before .before .before .before .pre, c .before .before .before .before .pre .0)
 
 place-requires : tie.Need-place-requires
 place-requires c κs =

@@ -1,6 +1,5 @@
 -- `offer_found`: what is found is a cell of the block. Assumes nothing.
-use mathlib.Core.Path.{_≡_, refl, sym, ap, _∙_}
-use Prim.Native.Nat.{ℕ, _+_, _-_, _≤_, _<_}
+use Prim.Native.Nat.{_-_}
 use lib.ListN.{getD}
 use Rattle.words.proofs.Radix.{radix-lt}
 use borrow.Author.Needs.{needs}

@@ -1,6 +1,6 @@
 -- `try_arc`. The loop's invariant: the cells before c are tried (`Along`). Assumes nothing.
-use mathlib.Core.Path.{_≡_, refl, sym, ap, _∙_}
-use Prim.Native.Nat.{ℕ, _+_, _-_, _≤_, _<_}
+use mathlib.Core.Path.{_≡_}
+use Prim.Native.Nat.{_-_}
 use Rattle.request.specs.Request.{asked}
 use Rattle.tries.proofs.Arcs.{Along, none-yet, still-apart, tries-few, same-length as along-length, one-more, all-words, all-tries}
 use borrow.Author.Needs.{needs}

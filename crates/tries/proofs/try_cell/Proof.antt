@@ -1,7 +1,5 @@
 -- `try_cell`: an empty label is no try; a filled one is extended. Assumes nothing.
-use mathlib.Core.Path.{_≡_, refl, sym, ap, _∙_}
-use Prim.Native.Nat.{ℕ, _+_, _-_, _*_, _≤_, _<_}
-use lib.ListN.{length}
+use mathlib.Core.Path.{_∙_}
 use Rattle.request.specs.Request.{asked}
 use Rattle.tries.proofs.Frames.{span-is}
 use Rattle.tries.proofs.Trying.{empty-try, empty-bit, filled-bit, can-extend, filled-hints, filled-try}

@@ -1,0 +1,99 @@
+-- The reader's and the writer's answers have room in a packed number. Assumes nothing.
+use Prim.Native.Nat.{ℕ, suc, _+_, _*_, _≤_, _<_}
+use mathlib.Core.Path.{_≡_, refl, sym, ap, _∙_}
+use mathlib.Core.Bool.{not}
+use mathlib.Core.List.{List, [], _∷_, _++_}
+use native.Mathlib.Nat.{mul-le-mul, le-refl}
+use native.Mathlib.Omega.{arith}
+use lib.ListN.{length, length-append}
+use lib.Dec.{T, eqb, ltb, nltb→le}
+use Rattle.words.specs.Rows.{Weighed, clear, refused, weigh}
+use Rattle.words.proofs.Choices.{cond-cases}
+use Rattle.request.specs.declared.Request.{Request}
+use Rattle.sheet.specs.Grammar.{Contents, whole, broken, lf, sheetOf}
+use Rattle.sheet.specs.Answer.{told}
+use Rattle.sheet.specs.FirstBad.{ends}
+use Rattle.sheet.specs.Reader.{isBroken, badLine, wordsOf, readerRows, readSays}
+use Rattle.sheet.specs.Writer.{written, writerRows, writeSays}
+use Rattle.sheet.proofs.Clear.{readable, writable}
+use Rattle.sheet.proofs.First.{sheetable}
+use Rattle.sheet.proofs.FirstBad.{first-bad-line}
+use Rattle.desk.specs.Packed.{Answer}
+use Rattle.desk.proofs.Sound.{Room, Sound, sound-refused}
+
+-- an answer by a table: its refusals have room, and its count where no row holds
+pub told-answer : (w : Weighed) (n : ℕ) → ((number place : ℕ) → w ≡ refused number place → Room number place) → (w ≡ clear → n < 4294967296) → Answer (told w n)
+unfolding Answer
+told-answer clear n f g = (refl, refl, g refl, refl)
+told-answer (refused number place) n f g = let r = f number place refl in (r .some, r .few, r .near)
+
+-- ---- the reader
+
+-- no more lines end than there are bytes
+ends-le : (s : List ℕ) → ends s ≤ length s
+unfolding ends
+ends-le [] = omega arith
+ends-le (c ∷ cs) = let h = ends-le cs in cond-cases (λ (n : ℕ). n ≤ suc (length cs)) (eqb c lf) (λ _. omega arith) (λ _. omega arith)
+
+-- "first bad line from 1; one more than the lines": at most one more than the bytes
+bad-line-le : (s : List ℕ) → badLine (sheetOf s) ≤ length s + 1
+bad-line-le s = go (sheetOf s) refl
+  where
+    go : (p : Contents) → sheetOf s ≡ p → badLine p ≤ length s + 1
+    go (whole n d m words asks) e = omega arith
+    go (broken k) e =
+        let b = first-bad-line s k e in
+        let h = ends-le (b .front) in
+        let l = length-append (b .front) (b .rest) in
+        omega (arith, ap length (b .parts), b .place)
+
+reader-sound : (s : List ℕ) (room : ℕ) → Sound (readerRows s room)
+reader-sound s room = (
+  λ _. record { some = omega arith; few = omega arith; near = omega arith },
+  λ short. (
+    (λ _. record { some = omega arith; few = omega arith; near = omega (arith, bad-line-le s, nltb→le 8192 (length s) short) }),
+    (λ _. ((λ _. record { some = omega arith; few = omega arith; near = omega arith }), (λ _. tt))),
+  ),
+)
+
+-- "a 513th arc breaks the form": at most 512 arcs of 5 words
+read-count : (s : List ℕ) (room : ℕ) → weigh (readerRows s room) ≡ clear → length (wordsOf (sheetOf s)) < 4294967296
+read-count s room e =
+    let r = readable s room e in
+    let a = sheetable (r .nodes) (r .criteria) (r .arcs) s (r .words) (r .asks) (r .so) in
+    let m = mul-le-mul (a .arcs) (five (a .at-most)) in
+    omega (arith, ap (λ (p : Contents). length (wordsOf p)) (r .so), a .arc-words, m)
+  where
+    five : {d : ℕ} → d ≤ 3 → d + 2 ≤ 5
+    five h = omega arith
+
+pub read-answer : (s : List ℕ) (room : ℕ) → Answer (readSays s room)
+unfolding readSays
+read-answer s room =
+    told-answer (weigh (readerRows s room)) (length (wordsOf (sheetOf s)))
+    (λ number place e. sound-refused (readerRows s room) number place (reader-sound s room) e)
+    (read-count s room)
+
+-- ---- the writer
+
+writer-sound : (r : Request) (words : List ℕ) (room : ℕ) → Sound (writerRows r words room)
+writer-sound r words room = (
+  λ _. record { some = omega arith; few = omega arith; near = omega arith },
+  λ _. (
+    λ _. record { some = omega arith; few = omega arith; near = omega arith },
+    λ _. (
+      λ _. record { some = omega arith; few = omega arith; near = omega arith },
+      λ _. (
+        λ _. record { some = omega arith; few = omega arith; near = omega arith },
+        λ _. (λ _. record { some = omega arith; few = omega arith; near = omega arith }, λ _. tt),
+      ),
+    ),
+  ),
+)
+
+pub write-answer : (r : Request) (words : List ℕ) (room : ℕ) → Answer (writeSays r words room)
+unfolding writeSays
+write-answer r words room =
+    told-answer (weigh (writerRows r words room)) (length (written r words))
+    (λ number place e. sound-refused (writerRows r words room) number place (writer-sound r words room) e)
+    (λ e. omega (arith, writable r words room e .short))

@@ -1,0 +1,163 @@
+-- The build's answers have room in a packed number. Assumes nothing.
+use Prim.Native.Nat.{ℕ, _+_, _-_, _*_, _≤_, _<_}
+use mathlib.Core.Path.{_≡_, refl, sym, ap, _∙_}
+use mathlib.Core.Bool.{_||_}
+use mathlib.Core.List.{List, [], _∷_, _++_}
+use native.Mathlib.Nat.{mul-le-mul, mul-assoc, mul-comm, one-mul, le-refl, le-trans}
+use native.Mathlib.Omega.{arith}
+use lib.ListN.{length, getD}
+use lib.Dec.{T, leb, ltb}
+use Rattle.words.specs.Loops.{any}
+use Rattle.words.specs.Pieces.{at}
+use Rattle.words.specs.Rows.{Row, Weighed, clear, refused, weigh, each}
+use Rattle.words.proofs.Rows.{weigh-clear-front}
+use Rattle.words.proofs.Choices.{cond-cases}
+use Rattle.request.specs.declared.Request.{Request}
+use Rattle.request.specs.Request.{Req, asked, width, arcCount}
+use Rattle.request.specs.Shape.{cells, labelCount}
+use Rattle.request.specs.Rows.{sizeRows, ratioRow, arcWordsRow, arcFault, arcRow, bucketRow, labelRow, askRows, arcRows, shapeRows, rows}
+use Rattle.request.specs.Accepted.{Accepted, Regular, Small, Fits}
+use Rattle.request.proofs.Accepted.{sizes-facts, words-facts, accepted-regular, accepted-small, accepted-fits}
+use Rattle.rounds.specs.Rounds.{tries}
+use Rattle.rounds.proofs.Tries.{tries-le}
+use Rattle.table.specs.Build.{buildRows, answer, builtOf}
+use Rattle.desk.specs.Packed.{Answer}
+use Rattle.desk.specs.Calls.{builtSaid}
+use Rattle.desk.proofs.Sound.{Room, Sound, sound-refused, sound-append, sound-each}
+
+-- ---- the rows
+
+sizes-sound : (n d s k : ℕ) → Sound (sizeRows n d s k)
+unfolding sizeRows
+sizes-sound n d s k = (
+  λ _. record { some = omega arith; few = omega arith; near = omega arith },
+  λ _. (
+    λ _. record { some = omega arith; few = omega arith; near = omega arith },
+    λ _. (
+      λ _. record { some = omega arith; few = omega arith; near = omega arith },
+      λ _. (λ _. record { some = omega arith; few = omega arith; near = omega arith }, λ _. tt),
+    ),
+  ),
+)
+
+ratio-room : (ratios : List ℕ) (j : ℕ) → j < 2 → Room (ratioRow ratios j .number) (ratioRow ratios j .place)
+unfolding ratioRow
+ratio-room ratios j h = record { some = omega arith; few = omega arith; near = omega arith }
+
+words-room : (words w : ℕ) → Room (arcWordsRow words w .number) (arcWordsRow words w .place)
+unfolding arcWordsRow
+words-room words w = record { some = omega arith; few = omega arith; near = omega arith }
+
+-- an arc at fault has number 8
+fault-room : (n d : ℕ) (w : List ℕ) (a : ℕ) → a < 512 → T (ltb 0 (arcFault n d w)) → Room (arcFault n d w) a
+unfolding arcFault
+fault-room n d w a h =
+    cond-cases (λ (x : ℕ). T (ltb 0 x) → Room x a) (leb n (getD w 0 0) || leb n (getD w 1 0) || any (λ j. ltb 1000000 (getD w (j + 2) 0)) d)
+    (λ _ _. record { some = omega arith; few = omega arith; near = omega arith })
+    (λ _ t. absurd t)
+
+arc-room : (n d : ℕ) (arcs : List ℕ) (a : ℕ) → a < 512 → T (arcRow n d arcs a .holds) → Room (arcRow n d arcs a .number) (arcRow n d arcs a .place)
+unfolding arcRow
+arc-room n d arcs a h t = fault-room n d (at (d + 2) arcs a) a h t
+
+bucket-room : (R : Req) (j : ℕ) → j < 2 → Room (bucketRow R j .number) (bucketRow R j .place)
+unfolding bucketRow
+bucket-room R j h = record { some = omega arith; few = omega arith; near = omega arith }
+
+label-room : (R : Req) → Room (labelRow R .number) (labelRow R .place)
+unfolding labelRow
+label-room R = record { some = omega arith; few = omega arith; near = omega arith }
+
+module _ (q : Request) (arcs : List ℕ) where
+  abbrev R : Req
+  R = asked q arcs
+
+  -- at most two criteria have a ratio
+  graded-few : weigh (sizeRows (q .nodes) (q .criteria) (q .source) (q .hops)) ≡ clear → (j : ℕ) → j < q .criteria - 1 → j < 2
+  graded-few e j l = omega (arith, sizes-facts (q .nodes) (q .criteria) (q .source) (q .hops) e .three)
+
+  asks-sound : Sound (askRows (asked q arcs))
+  unfolding askRows
+  asks-sound =
+      sound-append (sizeRows (q .nodes) (q .criteria) (q .source) (q .hops)) (each (ratioRow (q .ratios)) (q .criteria - 1))
+      (sizes-sound (q .nodes) (q .criteria) (q .source) (q .hops))
+      (λ e. sound-each (ratioRow (q .ratios)) (q .criteria - 1) (λ j l _. ratio-room (q .ratios) j (graded-few e j l)))
+
+  arcs-sound : Sound (arcRows (asked q arcs))
+  unfolding arcRows arcCount
+  arcs-sound = (
+    λ _. words-room (length arcs) (q .criteria + 2),
+    λ t. sound-each (arcRow (q .nodes) (q .criteria) arcs) (arcCount R) (λ a l u. arc-room (q .nodes) (q .criteria) arcs a (omega (arith, l, words-facts (length arcs) (q .criteria + 2) t .1)) u),
+  )
+
+  sizes-clear : weigh (askRows (asked q arcs) ++ arcRows (asked q arcs)) ≡ clear → weigh (sizeRows (q .nodes) (q .criteria) (q .source) (q .hops)) ≡ clear
+  unfolding askRows
+  sizes-clear e =
+      weigh-clear-front (sizeRows (q .nodes) (q .criteria) (q .source) (q .hops)) (each (ratioRow (q .ratios)) (q .criteria - 1))
+      (weigh-clear-front (askRows R) (arcRows R) e)
+
+  shape-sound : weigh (askRows (asked q arcs) ++ arcRows (asked q arcs)) ≡ clear → Sound (shapeRows (asked q arcs))
+  unfolding shapeRows
+  shape-sound e =
+      sound-append (each (bucketRow R) (q .criteria - 1)) (labelRow R ∷ [])
+      (sound-each (bucketRow R) (q .criteria - 1) (λ j l _. bucket-room R j (graded-few (sizes-clear e) j l)))
+      (λ _. (λ _. label-room R, λ _. tt))
+
+  rows-sound : Sound (rows (asked q arcs))
+  unfolding rows
+  rows-sound =
+      sound-append (askRows R ++ arcRows R) (shapeRows R)
+      (sound-append (askRows R) (arcRows R) asks-sound (λ _. arcs-sound))
+      shape-sound
+
+  build-sound : (a b : ℕ) → Sound (buildRows (asked q arcs) a b)
+  unfolding buildRows
+  build-sound a b =
+      sound-append (rows R) _ rows-sound
+      (λ _. (
+        λ _. record { some = omega arith; few = omega arith; near = omega arith },
+        λ _. (λ _. record { some = omega arith; few = omega arith; near = omega arith }, λ _. tt),
+      ))
+
+  -- ---- the tries
+
+  build-clear : (a b : ℕ) → weigh (buildRows (asked q arcs) a b) ≡ clear → Accepted (asked q arcs)
+  unfolding buildRows Accepted
+  build-clear a b e = weigh-clear-front (rows R) _ e
+
+-- "K × M × C", where (K+1) × N × C is at most 1,048,576 and M at most 512
+product-le : (k n c m : ℕ) → 0 < n → (k + 1) * (n * c) ≤ 1048576 → m ≤ 512 → k * (m * c) ≤ 536870912
+product-le k n c m some few arcs =
+    let a : 1 * c ≤ n * c = mul-le-mul (one some) (le-refl c) in
+    let b : c ≤ n * c = omega (arith, a, one-mul c) in
+    let d : k * c ≤ (k + 1) * (n * c) = mul-le-mul (more k) b in
+    let f : m * (k * c) ≤ 512 * 1048576 = mul-le-mul arcs (le-trans d few) in
+    let g : k * (m * c) ≡ m * (k * c) = sym (mul-assoc k m c) ∙ ap (λ (x : ℕ). x * c) (mul-comm k m) ∙ mul-assoc m k c in
+    omega (arith, f, g)
+  where
+    one : {x : ℕ} → 0 < x → 1 ≤ x
+    one h = omega arith
+
+    more : (x : ℕ) → x ≤ x + 1
+    more x = omega arith
+
+-- TRIES ARE AT MOST 2^29
+pub tries-few : (R : Req) → Accepted R → tries R (R .hops) ≤ 536870912
+unfolding labelCount
+tries-few R acc =
+    le-trans (tries-le R (R .hops))
+    (product-le (R .hops) (R .nodes) (cells R) (arcCount R) (omega (arith, accepted-regular R acc .source-in)) (accepted-fits R acc .labels-few) (accepted-small R acc .arcs-few))
+
+pub built-answer : (q : Request) (arcs : List ℕ) (a b : ℕ) → Answer (builtSaid (builtOf (asked q arcs) a b))
+unfolding Answer builtOf
+built-answer q arcs a b =
+    go (weigh (buildRows R a b))
+    (λ n p e. sound-refused (buildRows R a b) n p (build-sound q arcs a b) e)
+    (λ e. omega (arith, tries-few R (build-clear q arcs a b e)))
+  where
+    R : Req
+    R = asked q arcs
+
+    go : (w : Weighed) → ((n p : ℕ) → w ≡ refused n p → Room n p) → (w ≡ clear → tries R (R .hops) < 4294967296) → Answer (builtSaid (answer w (tries R (R .hops))))
+    go clear f g = (refl, refl, g refl, refl)
+    go (refused n p) f g = let r = f n p refl in (r .some, r .few, r .near)

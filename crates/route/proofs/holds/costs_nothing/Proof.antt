@@ -1,0 +1,59 @@
+-- `costs_nothing`: the costs so far are 0. Assumes nothing.
+use Prim.Native.Nat.{ℕ, _-_, _≤_, _<_}
+use mathlib.Core.Path.{_≡_}
+use native.Mathlib.Omega.{arith}
+use lib.ListN.{getD}
+use Rattle.route.proofs.Comparing.{nothing-yes, nothing-no, next-word}
+use borrow.Author.Needs.{needs}
+use Rattle.route.proofs.holds.costs_nothing.Statement.{statement}
+use Rattle.route.proofs.holds.costs_nothing.Tie as tie
+
+abbrev Inv-loop : tie.InvT-loop
+Inv-loop l d j₀ j = (j ≤ d) × ((k : ℕ) → k < j → getD l k 0 ≡ 0)
+
+abbrev μ-loop : tie.MeasureT-loop
+μ-loop l d j₀ j = d - j
+
+loop-holds : tie.Need-loop-holds Inv-loop μ-loop
+loop-holds c = (omega arith, λ k l. absurd (omega arith))
+
+mul-if1 : tie.Need-mul-if1 Inv-loop μ-loop
+mul-if1 c = search needs
+
+shared-slice-read-if1 : tie.Need-shared-slice-read-if1 Inv-loop μ-loop
+shared-slice-read-if1 c = search needs
+
+returns : tie.Need-returns Inv-loop μ-loop
+returns c =
+    let a = c .before .before .before .before .args in
+    nothing-no (a .l .now) (a .d) (c .before .before .before .before .pre) (c .before .before .before .loop .j) (c .before .before .loop-test .taken) (c .if1 .taken)
+
+add-j : tie.Need-add-j Inv-loop μ-loop
+add-j c = search needs
+
+loop-less : tie.Need-loop-less Inv-loop μ-loop
+loop-less c = search needs
+
+loop-again : tie.Need-loop-again Inv-loop μ-loop
+loop-again c =
+    (omega arith, next-word (λ k. getD (c .before .before .before .before .args .l .now) k 0 ≡ 0) (c .before .before .before .loop .j) (c .before .before .before .loop .inv .1) (c .if1 .left))
+
+returns-2 : tie.Need-returns-2 Inv-loop μ-loop
+returns-2 c =
+    let a = c .before .before .args in
+    nothing-yes (a .l .now) (a .d) (c .before .before .pre) (λ k l. c .before .loop .inv .1 k (omega arith))
+
+pub costs-nothing-spec : {M : Type 1} → statement M
+costs-nothing-spec =
+    tie.close
+    (tie.spec
+    Inv-loop
+    μ-loop
+    loop-holds
+    mul-if1
+    shared-slice-read-if1
+    returns
+    add-j
+    loop-less
+    loop-again
+    returns-2)

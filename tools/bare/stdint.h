@@ -1,0 +1,9 @@
+/* For x86-64 Linux with no C headers. */
+#ifndef BARE_STDINT_H
+#define BARE_STDINT_H
+typedef unsigned char uint8_t;
+typedef unsigned short uint16_t;
+typedef unsigned int uint32_t;
+typedef unsigned long uint64_t;
+typedef long int64_t;
+#endif
