@@ -7,11 +7,10 @@ use route::Trail;
 use route::follow;
 pub use sheets::list;
 ghost use mathlib.Core.Path.{_≡_};
-ghost use Prim.Native.Nat.{ℕ, _+_, _*_, _≤_, _<_};
+ghost use Prim.Native.Nat.{_+_, _*_, _≤_, _<_};
 ghost use lib.ListN.{length};
-ghost use Rattle.words.specs.Loops.{total};
 ghost use Rattle.words.specs.Pieces.{write};
-ghost use Rattle.request.specs.Request.{asked, width};
+ghost use Rattle.request.specs.Request.{asked};
 ghost use Rattle.rounds.specs.Label.{filled};
 ghost use Rattle.listing.specs.Listing.{lastLabel, filledAt, filledOf, filledLast, labelNumbers, labelLine, nodeLines, labelLines, listingText, refusalLine};
 ghost use Rattle.listing.specs.Print.{countOf, printedOf, bytesAfter, Tabled};
@@ -247,7 +246,7 @@ fn put_labels(
 }
 
 // Prints the listing of a built table at the front of the lent bytes, or says that it is longer than they are.
-pub fn print(
+fn print(
     labels: &[u32],
     arcs: &[u32],
     request: Request,

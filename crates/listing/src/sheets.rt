@@ -12,7 +12,6 @@ use sheet::read;
 use table::Built;
 use table::build;
 ghost use mathlib.Core.Path.{_≡_};
-ghost use Prim.Native.Nat.{_≤_};
 ghost use lib.ListN.{length};
 ghost use Rattle.request.specs.Request.{asked};
 ghost use Rattle.request.specs.Accepted.{Accepted};
