@@ -13,13 +13,13 @@ use Rattle.request.specs.declared.Request.{Request}
 use Rattle.sheet.specs.Grammar.{Contents, whole, broken, lf, sheetOf}
 use Rattle.sheet.specs.Answer.{told}
 use Rattle.sheet.specs.FirstBad.{ends}
-use Rattle.sheet.specs.Reader.{isBroken, badLine, wordsOf, readerRows, readSays}
+use Rattle.sheet.specs.Reader.{badLine, wordsOf, formRows, readerRows, readSays}
 use Rattle.sheet.specs.Writer.{written, writerRows, writeSays}
 use Rattle.sheet.proofs.Clear.{readable, writable}
 use Rattle.sheet.proofs.First.{sheetable}
 use Rattle.sheet.proofs.FirstBad.{first-bad-line}
 use Rattle.desk.specs.Packed.{Answer}
-use Rattle.desk.proofs.Sound.{Room, Sound, sound-refused}
+use Rattle.desk.proofs.Sound.{Room, Sound, sound-refused, sound-append}
 
 -- an answer by a table: its refusals have room, and its count where no row holds
 pub told-answer : (w : Weighed) (n : ℕ) → ((number place : ℕ) → w ≡ refused number place → Room number place) → (w ≡ clear → n < 4294967296) → Answer (told w n)
@@ -47,14 +47,19 @@ bad-line-le s = go (sheetOf s) refl
         let l = length-append (b .front) (b .rest) in
         omega (arith, ap length (b .parts), b .place)
 
-reader-sound : (s : List ℕ) (room : ℕ) → Sound (readerRows s room)
-reader-sound s room = (
+pub form-sound : (s : List ℕ) → Sound (formRows s)
+form-sound s = (
   λ _. record { some = omega arith; few = omega arith; near = omega arith },
   λ short. (
     (λ _. record { some = omega arith; few = omega arith; near = omega (arith, bad-line-le s, nltb→le 8192 (length s) short) }),
-    (λ _. ((λ _. record { some = omega arith; few = omega arith; near = omega arith }), (λ _. tt))),
+    (λ _. tt),
   ),
 )
+
+reader-sound : (s : List ℕ) (room : ℕ) → Sound (readerRows s room)
+reader-sound s room =
+    sound-append (formRows s) (record { number = 13; holds = ltb room (length (wordsOf (sheetOf s))); place = 1 } ∷ []) (form-sound s)
+    (λ _. (λ _. record { some = omega arith; few = omega arith; near = omega arith }, λ _. tt))
 
 -- "a 513th arc breaks the form": at most 512 arcs of 5 words
 read-count : (s : List ℕ) (room : ℕ) → weigh (readerRows s room) ≡ clear → length (wordsOf (sheetOf s)) < 4294967296
