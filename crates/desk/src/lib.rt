@@ -7,7 +7,7 @@ use sheet::Outcome;
 use sheet::Writing;
 use table::Built;
 ghost use mathlib.Core.Path.{_≡_};
-ghost use Prim.Native.Nat.{ℕ, _<_};
+ghost use Prim.Native.Nat.{_<_};
 ghost use lib.ListN.{length};
 ghost use Rattle.request.specs.Request.{asked};
 ghost use Rattle.sheet.specs.Answer.{refusalSaid};
