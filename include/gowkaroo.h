@@ -59,6 +59,7 @@ enum {
     GOWKAROO_MOST_CRITERIA = 3,
     GOWKAROO_MOST_HOPS = 63,                /* route words that always suffice */
     GOWKAROO_MOST_SHEET_BYTES = 8192,
+    GOWKAROO_MOST_LISTING_BYTES = 53000,
     GOWKAROO_MOST_ARC_WORDS = 512 * 5,      /* 512 arcs of d + 2 words: tail, head, costs */
     GOWKAROO_MOST_LADDER_WORDS = 2 * 4097,  /* two ladders of 4,096 buckets: B + 1 fences each */
     GOWKAROO_MOST_LABEL_WORDS = 1048576 * 5 /* 1,048,576 labels of d + 2 words: costs, step, from */
@@ -79,6 +80,14 @@ enum {
 };
 
 /* ---- The functions ---- */
+
+/* Lists a sheet: reader, build and listing in one call, with arc, ladder and label words of its own (about 90 KB of stack). The
+ * listing goes to the front of `listing`: a line `cover` with the filled labels of the last layer and the tries, then a line
+ * `label` for each of them, with node, costs, arc count and arc numbers; fields are parted by tabs, and every line ends in LF.
+ * Low: the listing's length in bytes, always under 53,000. Refusals, in this order: 12, 1, 2 to 10, 13 (2: the table has over
+ * 12,288 words, which this call has of its own; 3: listing). */
+uint64_t gowkaroo_list(const uint8_t *sheet, size_t sheet_len,
+                       uint8_t *listing, size_t listing_len);
 
 /* Reads a sheet. The request goes to the eight words of `request`, the arcs' words to the front of `arcs`.
  * Low: how many words of `arcs` were filled. Refusals, in this order: 12, 1, 13 (1: arcs). Ranges are judged by the

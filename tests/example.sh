@@ -11,9 +11,9 @@ link_any "$work/list_sheet" "$root/examples/c/list_sheet.c"
 right=0
 for sheet in "$root"/tests/sheets/*.sheet; do
     run_any "$work/list_sheet" "$sheet" >"$work/printed" || :
-    # A refusal is told in words after its number; of a listing the example prints the tries, its first line's last field.
-    told=$(sed 's/^refused \([0-9]*\):.*/refused \1/; s/^tries.//' "$work/printed")
-    wanted=$(awk -F '\t' 'NR == 1 { print $1 == "refused" ? $1 " " $2 : $3 }' "${sheet%.sheet}.listing")
+    # A refusal is told in words after its number; a listing is the stored one.
+    told=$(sed 's/^refused \([0-9]*\):.*/refused \1/' "$work/printed")
+    wanted=$(awk -F '\t' '{ print $1 == "refused" ? $1 " " $2 : $0 }' "${sheet%.sheet}.listing")
     if [ "$told" != "$wanted" ]; then
         echo "FAILED: $sheet: the example printed '$(cat "$work/printed")', wanted '$wanted'"
         exit 1

@@ -77,6 +77,9 @@ int main(void) {
         case OP_BUILD:
             answer = gowkaroo_build(words(request), words(arcs), count(arcs), words(first), count(first), words(second), count(second));
             break;
+        case OP_LIST:
+            answer = gowkaroo_list(sheet.at, sheet.bytes, first.at, first.bytes);
+            break;
         case OP_READ_BACK:
             answer = gowkaroo_read_back(words(request), words(arcs), count(arcs), words(labels), count(labels), head[9], head[10], head[11],
                                         words(costs), words(first), count(first));

@@ -8,6 +8,7 @@
 mod model;
 
 mod case;
+mod listings;
 mod pipe;
 mod routes;
 mod sheets;
@@ -27,7 +28,7 @@ type Part = (
     fn(&mut Planner) -> Result<Seen, String>,
 );
 
-const PARTS: [Part; 4] = [
+const PARTS: [Part; 5] = [
     ("sheets read", &[0, 1, 12, 13], |planner| {
         run(planner, 101, 24_000, sheets::to_read)
     }),
@@ -43,6 +44,11 @@ const PARTS: [Part; 4] = [
         "labels read back",
         &[0, 2, 3, 4, 5, 6, 7, 8, 9, 10, 13, 14, 15, 16],
         |planner| run(planner, 104, 24_000, routes::to_read_back),
+    ),
+    (
+        "sheets listed",
+        &[0, 1, 2, 4, 5, 6, 8, 9, 10, 12, 13],
+        |planner| run(planner, 105, 24_000, listings::to_list),
     ),
 ];
 

@@ -7,6 +7,7 @@ use std::process::{Child, ChildStdin, ChildStdout, Command, Stdio};
 pub const OP_READ: u32 = 1;
 pub const OP_WRITE: u32 = 2;
 pub const OP_BUILD: u32 = 3;
+pub const OP_LIST: u32 = 4;
 pub const OP_READ_BACK: u32 = 5;
 
 /// What the harness is asked: the call, what it is given, and the sizes in

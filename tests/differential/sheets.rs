@@ -42,25 +42,9 @@ impl Case for ReadSheet {
 
     fn smaller(&self) -> Vec<ReadSheet> {
         let mut found = Vec::new();
-        let lines: Vec<&[u8]> = self.sheet.split_inclusive(|&byte| byte == b'\n').collect();
-        let mut keep = |sheet: Vec<u8>| {
-            found.push(ReadSheet {
-                sheet,
-                room: self.room,
-            });
-        };
-        keep(lines[..lines.len() / 2].concat());
-        for k in 0..lines.len() {
-            let mut fewer = lines.clone();
-            fewer.remove(k);
-            keep(fewer.concat());
-        }
-        if self.sheet.len() <= 400 {
-            for k in 0..self.sheet.len() {
-                let mut fewer = self.sheet.clone();
-                fewer.remove(k);
-                keep(fewer);
-            }
+        for sheet in smaller_sheets(&self.sheet) {
+            let room = self.room;
+            found.push(ReadSheet { sheet, room });
         }
         if self.room > 0 {
             for room in [self.room / 2, self.room - 1] {
@@ -81,8 +65,28 @@ impl Case for ReadSheet {
     }
 }
 
+/// Smaller sheets: fewer lines, and of short sheets fewer bytes.
+pub fn smaller_sheets(sheet: &[u8]) -> Vec<Vec<u8>> {
+    let lines: Vec<&[u8]> = sheet.split_inclusive(|&byte| byte == b'\n').collect();
+    let mut found = vec![lines[..lines.len() / 2].concat()];
+    for k in 0..lines.len() {
+        let mut fewer = lines.clone();
+        fewer.remove(k);
+        found.push(fewer.concat());
+    }
+    if sheet.len() <= 400 {
+        for k in 0..sheet.len() {
+            let mut fewer = sheet.to_vec();
+            fewer.remove(k);
+            found.push(fewer);
+        }
+    }
+    found.retain(|own| own.len() < sheet.len());
+    found
+}
+
 /// A sheet in form, at a limit, or damaged, of any length.
-fn any_sheet(rng: &mut Rng, turn: usize) -> Vec<u8> {
+pub fn any_sheet(rng: &mut Rng, turn: usize) -> Vec<u8> {
     let mut own = match turn % 8 {
         0 => sheet(rng),
         1 | 2 => edge_sheet(rng),

@@ -1,25 +1,23 @@
 -- The reader's and the writer's answers have room in a packed number. Assumes nothing.
-use Prim.Native.Nat.{ℕ, suc, _+_, _*_, _≤_, _<_}
-use mathlib.Core.Path.{_≡_, refl, sym, ap, _∙_}
-use mathlib.Core.Bool.{not}
-use mathlib.Core.List.{List, [], _∷_, _++_}
-use native.Mathlib.Nat.{mul-le-mul, le-refl}
+use Prim.Native.Nat.{ℕ, suc, _+_, _≤_, _<_}
+use mathlib.Core.Path.{_≡_, refl, ap}
+use mathlib.Core.List.{List, [], _∷_}
 use native.Mathlib.Omega.{arith}
 use lib.ListN.{length, length-append}
-use lib.Dec.{T, eqb, ltb, nltb→le}
+use lib.Dec.{eqb, ltb, nltb→le}
 use Rattle.words.specs.Rows.{Weighed, clear, refused, weigh}
 use Rattle.words.proofs.Choices.{cond-cases}
 use Rattle.request.specs.declared.Request.{Request}
 use Rattle.sheet.specs.Grammar.{Contents, whole, broken, lf, sheetOf}
 use Rattle.sheet.specs.Answer.{told}
 use Rattle.sheet.specs.FirstBad.{ends}
-use Rattle.sheet.specs.Reader.{isBroken, badLine, wordsOf, readerRows, readSays}
+use Rattle.sheet.specs.Reader.{badLine, wordsOf, formRows, readerRows, readSays}
 use Rattle.sheet.specs.Writer.{written, writerRows, writeSays}
-use Rattle.sheet.proofs.Clear.{readable, writable}
-use Rattle.sheet.proofs.First.{sheetable}
+use Rattle.sheet.proofs.Clear.{writable}
 use Rattle.sheet.proofs.FirstBad.{first-bad-line}
+use Rattle.listing.proofs.Rooms.{words-few}
 use Rattle.desk.specs.Packed.{Answer}
-use Rattle.desk.proofs.Sound.{Room, Sound, sound-refused}
+use Rattle.desk.proofs.Sound.{Room, Sound, sound-refused, sound-append}
 
 -- an answer by a table: its refusals have room, and its count where no row holds
 pub told-answer : (w : Weighed) (n : ℕ) → ((number place : ℕ) → w ≡ refused number place → Room number place) → (w ≡ clear → n < 4294967296) → Answer (told w n)
@@ -47,32 +45,26 @@ bad-line-le s = go (sheetOf s) refl
         let l = length-append (b .front) (b .rest) in
         omega (arith, ap length (b .parts), b .place)
 
-reader-sound : (s : List ℕ) (room : ℕ) → Sound (readerRows s room)
-reader-sound s room = (
+pub form-sound : (s : List ℕ) → Sound (formRows s)
+form-sound s = (
   λ _. record { some = omega arith; few = omega arith; near = omega arith },
   λ short. (
     (λ _. record { some = omega arith; few = omega arith; near = omega (arith, bad-line-le s, nltb→le 8192 (length s) short) }),
-    (λ _. ((λ _. record { some = omega arith; few = omega arith; near = omega arith }), (λ _. tt))),
+    (λ _. tt),
   ),
 )
 
--- "a 513th arc breaks the form": at most 512 arcs of 5 words
-read-count : (s : List ℕ) (room : ℕ) → weigh (readerRows s room) ≡ clear → length (wordsOf (sheetOf s)) < 4294967296
-read-count s room e =
-    let r = readable s room e in
-    let a = sheetable (r .nodes) (r .criteria) (r .arcs) s (r .words) (r .asks) (r .so) in
-    let m = mul-le-mul (a .arcs) (five (a .at-most)) in
-    omega (arith, ap (λ (p : Contents). length (wordsOf p)) (r .so), a .arc-words, m)
-  where
-    five : {d : ℕ} → d ≤ 3 → d + 2 ≤ 5
-    five h = omega arith
+reader-sound : (s : List ℕ) (room : ℕ) → Sound (readerRows s room)
+reader-sound s room =
+    sound-append (formRows s) (record { number = 13; holds = ltb room (length (wordsOf (sheetOf s))); place = 1 } ∷ []) (form-sound s)
+    (λ _. (λ _. record { some = omega arith; few = omega arith; near = omega arith }, λ _. tt))
 
 pub read-answer : (s : List ℕ) (room : ℕ) → Answer (readSays s room)
 unfolding readSays
 read-answer s room =
     told-answer (weigh (readerRows s room)) (length (wordsOf (sheetOf s)))
     (λ number place e. sound-refused (readerRows s room) number place (reader-sound s room) e)
-    (read-count s room)
+    (λ _. omega (arith, words-few s))
 
 -- ---- the writer
 

@@ -8,7 +8,6 @@ use Rattle.words.specs.Rows.{Weighed, clear, refused, weigh, settle}
 use Rattle.words.proofs.Choices.{cond-cases}
 use Rattle.request.specs.declared.Refusal.{Refusal}
 use Rattle.request.specs.Request.{Req}
-use Rattle.route.specs.Chain.{chain}
 use Rattle.route.specs.Answer.{backRows, refusal, ended, endingOf, costsAfter}
 use Rattle.route.specs.declared.Ending.{Ending}
 use Rattle.route.specs.declared.Ending.the-variants as ending

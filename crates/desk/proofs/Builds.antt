@@ -1,26 +1,24 @@
 -- The build's answers have room in a packed number. Assumes nothing.
-use Prim.Native.Nat.{ℕ, _+_, _-_, _*_, _≤_, _<_}
-use mathlib.Core.Path.{_≡_, refl, sym, ap, _∙_}
+use Prim.Native.Nat.{ℕ, _+_, _-_, _<_}
+use mathlib.Core.Path.{_≡_, refl}
 use mathlib.Core.Bool.{_||_}
 use mathlib.Core.List.{List, [], _∷_, _++_}
-use native.Mathlib.Nat.{mul-le-mul, mul-assoc, mul-comm, one-mul, le-refl, le-trans}
 use native.Mathlib.Omega.{arith}
 use lib.ListN.{length, getD}
 use lib.Dec.{T, leb, ltb}
 use Rattle.words.specs.Loops.{any}
 use Rattle.words.specs.Pieces.{at}
-use Rattle.words.specs.Rows.{Row, Weighed, clear, refused, weigh, each}
+use Rattle.words.specs.Rows.{Weighed, clear, refused, weigh, each}
 use Rattle.words.proofs.Rows.{weigh-clear-front}
 use Rattle.words.proofs.Choices.{cond-cases}
 use Rattle.request.specs.declared.Request.{Request}
-use Rattle.request.specs.Request.{Req, asked, width, arcCount}
-use Rattle.request.specs.Shape.{cells, labelCount}
+use Rattle.request.specs.Request.{Req, asked, arcCount}
 use Rattle.request.specs.Rows.{sizeRows, ratioRow, arcWordsRow, arcFault, arcRow, bucketRow, labelRow, askRows, arcRows, shapeRows, rows}
-use Rattle.request.specs.Accepted.{Accepted, Regular, Small, Fits}
+use Rattle.request.specs.Accepted.{Accepted}
 use Rattle.request.proofs.Accepted.{sizes-facts, words-facts, accepted-regular, accepted-small, accepted-fits}
 use Rattle.rounds.specs.Rounds.{tries}
-use Rattle.rounds.proofs.Tries.{tries-le}
 use Rattle.table.specs.Build.{buildRows, answer, builtOf}
+use Rattle.listing.proofs.Rooms.{tries-few}
 use Rattle.desk.specs.Packed.{Answer}
 use Rattle.desk.specs.Calls.{builtSaid}
 use Rattle.desk.proofs.Sound.{Room, Sound, sound-refused, sound-append, sound-each}
@@ -125,35 +123,12 @@ module _ (q : Request) (arcs : List ℕ) where
   unfolding buildRows Accepted
   build-clear a b e = weigh-clear-front (rows R) _ e
 
--- "K × M × C", where (K+1) × N × C is at most 1,048,576 and M at most 512
-product-le : (k n c m : ℕ) → 0 < n → (k + 1) * (n * c) ≤ 1048576 → m ≤ 512 → k * (m * c) ≤ 536870912
-product-le k n c m some few arcs =
-    let a : 1 * c ≤ n * c = mul-le-mul (one some) (le-refl c) in
-    let b : c ≤ n * c = omega (arith, a, one-mul c) in
-    let d : k * c ≤ (k + 1) * (n * c) = mul-le-mul (more k) b in
-    let f : m * (k * c) ≤ 512 * 1048576 = mul-le-mul arcs (le-trans d few) in
-    let g : k * (m * c) ≡ m * (k * c) = sym (mul-assoc k m c) ∙ ap (λ (x : ℕ). x * c) (mul-comm k m) ∙ mul-assoc m k c in
-    omega (arith, f, g)
-  where
-    one : {x : ℕ} → 0 < x → 1 ≤ x
-    one h = omega arith
-
-    more : (x : ℕ) → x ≤ x + 1
-    more x = omega arith
-
--- TRIES ARE AT MOST 2^29
-pub tries-few : (R : Req) → Accepted R → tries R (R .hops) ≤ 536870912
-unfolding labelCount
-tries-few R acc =
-    le-trans (tries-le R (R .hops))
-    (product-le (R .hops) (R .nodes) (cells R) (arcCount R) (omega (arith, accepted-regular R acc .source-in)) (accepted-fits R acc .labels-few) (accepted-small R acc .arcs-few))
-
 pub built-answer : (q : Request) (arcs : List ℕ) (a b : ℕ) → Answer (builtSaid (builtOf (asked q arcs) a b))
 unfolding Answer builtOf
 built-answer q arcs a b =
     go (weigh (buildRows R a b))
     (λ n p e. sound-refused (buildRows R a b) n p (build-sound q arcs a b) e)
-    (λ e. omega (arith, tries-few R (build-clear q arcs a b e)))
+    (λ e. omega (arith, (let ok = build-clear q arcs a b e in tries-few R (accepted-regular R ok) (accepted-small R ok) (accepted-fits R ok))))
   where
     R : Req
     R = asked q arcs

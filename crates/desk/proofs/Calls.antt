@@ -1,9 +1,9 @@
 -- What an answer of the reader, the writer or the build tells the call that packs it. Assumes nothing.
 use Prim.Native.Nat.{ℕ, _<_}
-use mathlib.Core.Path.{_≡_, refl, sym, ap, _∙_, subst}
+use mathlib.Core.Path.{_≡_, sym, ap, _∙_, subst}
 use mathlib.Core.List.{List, [], _∷_}
 use lib.ListN.{length}
-use Rattle.words.specs.Rows.{Weighed, clear, refused, weigh}
+use Rattle.words.specs.Rows.{Weighed, weigh}
 use Rattle.request.specs.declared.Refusal.{Refusal}
 use Rattle.sheet.specs.declared.Outcome.{Outcome}
 use Rattle.sheet.specs.declared.Outcome.the-variants as outcome
@@ -15,7 +15,6 @@ use Rattle.sheet.proofs.Told.{read-refused-told}
 use Rattle.desk.specs.Packed.{pack, packed, Answer}
 use Rattle.desk.specs.Calls.{requestWords, requestAfter}
 use Rattle.desk.proofs.Packing.{number-small, count-small, packed-count}
-use Rattle.desk.proofs.Answers.{read-answer}
 
 -- ---- any answer `a` that is told
 

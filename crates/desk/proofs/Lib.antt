@@ -3,6 +3,7 @@ pub mod Sound
 pub mod Answers
 pub mod Builds
 pub mod Routes
+pub mod Lists
 pub mod Calls
 pub mod Backs
 pub mod Told

@@ -1,8 +1,8 @@
 -- The read-back's answers have room in a packed number. Assumes nothing.
-use Prim.Native.Nat.{ℕ, zero, suc, _+_, _-_, _*_, _≤_, _<_}
-use mathlib.Core.Path.{_≡_, refl, sym, ap, _∙_}
-use mathlib.Core.Bool.{cond, not, _||_}
-use mathlib.Core.List.{List, [], _∷_, _++_}
+use Prim.Native.Nat.{ℕ, zero, suc, _+_, _-_, _≤_, _<_}
+use mathlib.Core.Path.{_≡_, refl}
+use mathlib.Core.Bool.{not, _||_}
+use mathlib.Core.List.{List, [], _∷_}
 use native.Mathlib.Omega.{arith}
 use lib.ListN.{length, length-append}
 use lib.Dec.{T, eqb, leb, ltb, nltb→le}
@@ -10,17 +10,16 @@ use Rattle.words.specs.Rows.{Weighed, clear, refused, weigh}
 use Rattle.words.proofs.Rows.{weigh-clear-front}
 use Rattle.words.proofs.Choices.{cond-cases}
 use Rattle.request.specs.declared.Request.{Request}
-use Rattle.request.specs.Request.{Req, asked, width, tail, reach}
-use Rattle.request.specs.Shape.{cells, labelCount}
+use Rattle.request.specs.Request.{Req, asked, tail, reach}
+use Rattle.request.specs.Shape.{cells}
 use Rattle.request.specs.Rows.{rows}
-use Rattle.request.specs.Accepted.{Accepted, Small}
+use Rattle.request.specs.Accepted.{Accepted}
 use Rattle.request.proofs.Accepted.{accepted-small}
 use Rattle.request.proofs.Tests.{nor-left}
 use Rattle.rounds.specs.Label.{step, from}
 use Rattle.route.specs.Chain.{labelIn, Chain, whole, broken, push, startHolds, keptHolds, arcHolds, chainIn, chain}
 use Rattle.route.specs.Answer.{breakLayer, arcsOf, backRows, refusal, ended, endingOf}
 use Rattle.route.specs.declared.Ending.{Ending}
-use Rattle.route.specs.declared.Ending.the-variants as ending
 use Rattle.desk.specs.Packed.{Answer}
 use Rattle.desk.specs.Calls.{endingSaid}
 use Rattle.desk.proofs.Sound.{Room, Sound, sound-refused, sound-append}

@@ -1,14 +1,14 @@
 -- Refusal tables whose refusals have room in a packed number. Assumes nothing.
 use Prim.Native.Nat.{ℕ, zero, suc, _<_}
-use mathlib.Core.Path.{_≡_, refl, sym, ap, _∙_}
+use mathlib.Core.Path.{_≡_, sym, _∙_}
 use mathlib.Core.Bool.{not}
 use mathlib.Core.List.{List, [], _∷_, _++_}
 use native.Mathlib.Nat.{le-refl, le-step}
 use native.Mathlib.Omega.{arith}
 use lib.Dec.{T}
 use Rattle.words.specs.Loops.{upTo}
-use Rattle.words.specs.Rows.{Row, Weighed, clear, refused, weigh, each}
-use Rattle.words.proofs.Rows.{weigh-held, weigh-passed, weigh-none, either, refused-not-clear, clear-cons}
+use Rattle.words.specs.Rows.{Row, clear, refused, weigh, each}
+use Rattle.words.proofs.Rows.{weigh-held, weigh-passed, weigh-none, either, refused-not-clear}
 
 -- a number from 1 on and a place, each with room
 pub record Room (number place : ℕ) : Type 0 where

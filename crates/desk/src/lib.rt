@@ -1,4 +1,5 @@
 // The planner for C: slices, a request of eight words, and one 64-bit number for each answer.
+use listing::Listed;
 use request::Refusal;
 use request::Request;
 use route::Ending;
@@ -6,7 +7,7 @@ use sheet::Outcome;
 use sheet::Writing;
 use table::Built;
 ghost use mathlib.Core.Path.{_≡_};
-ghost use Prim.Native.Nat.{ℕ, _<_};
+ghost use Prim.Native.Nat.{_<_};
 ghost use lib.ListN.{length};
 ghost use Rattle.request.specs.Request.{asked};
 ghost use Rattle.sheet.specs.Answer.{refusalSaid};
@@ -14,6 +15,7 @@ ghost use Rattle.sheet.specs.Reader.{readSays, arcsAfter};
 ghost use Rattle.sheet.specs.Writer.{writeSays, sheetAfter};
 ghost use Rattle.table.specs.Build.{builtOf, laddersAfter, labelsAfter};
 ghost use Rattle.route.specs.Answer.{endingOf, routeAfter};
+ghost use Rattle.listing.specs.List as list;
 ghost use Rattle.desk.specs.Packed.{pack, packed};
 ghost use Rattle.desk.specs.Calls.{requestFrom, requestWords, requestAfter, builtSaid, endingSaid, costsLent};
 
@@ -147,5 +149,19 @@ pub extern "C" fn gowkaroo_read_back(
             *costs = own;
             pack(0, count as u64)
         }
+    }
+}
+
+// Lists a sheet: reader, build and listing, with arc, ladder and label words of its own. The listing goes to the front of
+// the lent bytes, and the answer is its length in bytes. A refusal leaves them as they came.
+#[no_mangle]
+pub extern "C" fn gowkaroo_list(sheet: &[u8], listing: &mut [u8]) -> u64
+    ensures { λ r. ⌜ r ≡ packed (list.said (list.listedOf (now (sheet .entry)) (length (now (listing .entry))))) ⌝ }
+    ensures { λ _. ⌜ now (listing .exit) ≡ list.listingAfter (now (sheet .entry)) (now (listing .entry)) ⌝ }
+{
+    let listed = listing::list(sheet, listing);
+    match listed {
+        Listed::Refused(refusal) => pack_refusal(refusal),
+        Listed::Bytes(bytes) => pack(0, bytes as u64),
     }
 }

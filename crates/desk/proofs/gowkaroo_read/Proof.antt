@@ -1,5 +1,5 @@
 -- `gowkaroo_read`: the reader's answer, packed, and the request words filled where a sheet was read. Assumes nothing.
-use mathlib.Core.Path.{sym, ap, _∙_}
+use mathlib.Core.Path.{ap, _∙_}
 use lib.ListN.{length}
 use Rattle.desk.specs.Packed.{packed}
 use Rattle.desk.specs.Calls.{requestWords}
