@@ -14,7 +14,7 @@ use Rattle.fences.proofs.Growth.{buckets-le}
 use Rattle.request.specs.declared.Request.{Request}
 use Rattle.request.specs.Request.{Req, asked, width, head, reach, ratioP, ratioQ}
 use Rattle.request.specs.Shape.{top, buckets, cells}
-use Rattle.request.specs.Accepted.{Regular}
+use Rattle.request.specs.Accepted.{Accepted, Regular}
 use Rattle.request.proofs.Accepted.{accepted-regular}
 use Rattle.rounds.specs.Label.{costs, filled}
 use Rattle.rounds.specs.Rounds.{tries, labelAt}
@@ -32,7 +32,13 @@ use Rattle.sheet.proofs.RoundTrips.{same-bytes, same-numbers}
 use Rattle.table.specs.Build.{buildRows, answer, builtOf, labelsAfter}
 use Rattle.table.specs.declared.Built.the-variants as built
 use Rattle.table.proofs.Building.{clear-accepted, clear-rooms, refused-all, built-all}
-use Rattle.demands.specs.Demands.{Demand1, Demand2, Demand3, labelIn}
+use Rattle.route.specs.Chain.{labelIn, chain}
+use Rattle.route.specs.Answer.{backRows, arcsOf, routeAfter}
+use Rattle.route.specs.Walked.{Fronts}
+use Rattle.route.proofs.Promises.{decides-ending, none-route, route-walks, table-route, table-walks}
+use Rattle.route.proofs.Tables.{build-fronts}
+use Rattle.listing.specs.List as call
+use Rattle.demands.specs.Demands.{Demand1, Demand2, Demand3, AnyRoute}
 
 -- the bucket counts of a request
 buckets-bound : (R : Req) → Regular R → (j : ℕ) → j < R .graded → 0 < ratioP R j → buckets R j ≤ 1 + bits (top R j) * ceil (ratioQ R j) (ratioP R j)
@@ -54,7 +60,7 @@ accepted R buffer labels t e = go (weigh (buildRows R (length buffer) (length la
         let z : _≡_ {A = ℕ} 0 1 = cc in absurd (omega arith)
 
 pub demand1 : Demand1
-unfolding readSays arcsAfter writeSays sheetAfter
+unfolding readSays arcsAfter writeSays sheetAfter routeAfter call.listedOf call.listingAfter
 demand1 = record {
   build-refused = λ q arcs buffer labels k d.
       let R = asked q arcs in
@@ -69,6 +75,17 @@ demand1 = record {
   write-refused = λ q arcs sheet k d.
       let e = decides-refused (writerRows q arcs (length sheet)) k d in
       (ap (λ (w : Weighed). told w (length (written q arcs))) e, ap (λ (w : Weighed). settle w (write sheet 0 (written q arcs)) sheet) e);
+  back-refused = λ q arcs labels buffer i v c k d.
+      let R = asked q arcs in
+      let e = decides-refused (backRows R labels (length buffer) i v c) k d in
+      (decides-ending R labels (length buffer) i v c k d, ap (λ (w : Weighed). settle w (write buffer 0 (arcsOf (chain R labels i v c))) buffer) e);
+  back-accepted = λ q arcs labels room i v c h. none-route (asked q arcs) labels room i v c h;
+  list-refused = λ s bytes k d.
+      let e = decides-refused (call.listRows s (length bytes)) k d in
+      (ap (λ (w : Weighed). call.answer w (length (call.listingOf (call.asks s)))) e, ap (λ (w : Weighed). settle w (write bytes 0 (call.listingOf (call.asks s))) bytes) e);
+  list-accepted = λ s bytes h.
+      let e = none-clear (call.listRows s (length bytes)) h in
+      (ap (λ (w : Weighed). call.answer w (length (call.listingOf (call.asks s)))) e, ap (λ (w : Weighed). settle w (write bytes 0 (call.listingOf (call.asks s))) bytes) e);
 }
 
 pub demand2 : Demand2
@@ -92,8 +109,17 @@ module _ (q : Request) (arcs buffer labels : List ℕ) (t : ℕ) (e : builtOf (a
   none-held : weigh (buildRows R (length buffer) (length labels)) ≡ clear
   none-held = accepted R buffer labels t e .0
 
+  accepts : Accepted R
+  accepts = clear-accepted R (length buffer) (length labels) none-held
+
   ok : Regular R
-  ok = accepted-regular R (clear-accepted R (length buffer) (length labels) none-held)
+  ok = accepted-regular R accepts
+
+  -- the table stands in front
+  front : Fronts R W
+  front =
+      let room = clear-rooms R (length buffer) (length labels) none-held .1 in
+      subst (Fronts R) (built-all R buffer labels none-held .2) (build-fronts R labels (omega (arith, room, table-words R ok)))
 
   -- the label at its place in the buffer is the rounds' own
   label-is : (i v c : ℕ) → i ≤ q .hops → v < q .nodes → c < cells R → labelIn R W i v c ≡ labelAt R i v c
@@ -128,9 +154,15 @@ module _ (q : Request) (arcs buffer labels : List ℕ) (t : ℕ) (e : builtOf (a
     back = λ i v c hi hv hc u.
         let r = reads-back R ok i v c hv hc (full-is i v c hi hv hc u) in
         record { arcs = route R i v c; walk = r .walk; short = r .short; exact = ap (costs R) (label-is i v c hi hv hc) ∙ r .exact };
+    reads-back = λ buf i v c room hi hv hc u.
+        let f = full-is i v c hi hv hc u in
+        (route R i v c, sym (table-route R accepts W buf front room i v c hi hv hc f .0), table-walks R accepts W buf front room i v c hi hv hc f);
     tries-are = accepted R buffer labels t e .1;
     tries-most = (let a = accepted R buffer labels t e .1 in let b = tries-le R (q .hops) in omega arith);
     cells-are = refl;
     buckets-most = λ j l p. buckets-bound R ok j l p;
     costs-most = λ i v c hi hv hc u j. rw (ap (λ (l : List ℕ). getD (costs R l) j 0) (label-is i v c hi hv hc)) (layer-costs R ok i v c hv hc (full-is i v c hi hv hc u) j);
   }
+
+pub any-route : AnyRoute
+any-route q arcs labels buffer i v c n e = route-walks (asked q arcs) labels buffer i v c n e

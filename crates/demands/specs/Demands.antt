@@ -15,6 +15,12 @@ use Rattle.rounds.specs.Label.{costs, filled}
 use Rattle.rounds.specs.Rounds.{table, tries}
 use Rattle.cover.specs.Walk.{Walk, sums}
 use Rattle.cover.specs.Cover.{Covers}
+use Rattle.route.specs.Chain.{labelIn, chain}
+use Rattle.route.specs.Answer.{backRows, refusal, arcsOf, endingOf, routeAfter}
+use Rattle.route.specs.Walked.{RouteRead}
+use Rattle.route.specs.declared.Ending.the-variants as ending
+use Rattle.listing.specs.List.{asks, listingOf, listRows, listedOf, listingAfter}
+use Rattle.listing.specs.declared.Listed.the-variants as listed
 use Rattle.sheet.specs.Reader.{readerRows, readSays, arcsAfter}
 use Rattle.sheet.specs.Writer.{writerRows, writeSays, sheetAfter}
 use Rattle.sheet.specs.RoundTrip.{SameBytes, SameNumbers}
@@ -38,6 +44,19 @@ pub record Demand1 : Type 0 where
   -- the writer
   pub write-refused : (q : Request) (arcs sheet : List ℕ) (k : ℕ) → Decides (writerRows q arcs (length sheet)) k
       → (writeSays q arcs (length sheet) ≡ row (writerRows q arcs (length sheet)) k .number ∷ row (writerRows q arcs (length sheet)) k .place ∷ []) × (sheetAfter q arcs sheet ≡ sheet)
+  -- the read-back, on any words for a table and any asked place
+  pub back-refused : (q : Request) (arcs labels buffer : List ℕ) (i v c k : ℕ) → Decides (backRows (asked q arcs) labels (length buffer) i v c) k
+      → (endingOf (asked q arcs) labels (length buffer) i v c
+      ≡ refusal (row (backRows (asked q arcs) labels (length buffer) i v c) k .number) (row (backRows (asked q arcs) labels (length buffer) i v c) k .place))
+      × (routeAfter (asked q arcs) labels buffer i v c ≡ buffer)
+  pub back-accepted : (q : Request) (arcs labels : List ℕ) (room i v c : ℕ) → NoneHolds (backRows (asked q arcs) labels room i v c)
+      → endingOf (asked q arcs) labels room i v c ≡ ending.Route (length (arcsOf (chain (asked q arcs) labels i v c)))
+  -- the C call
+  pub list-refused : (s bytes : List ℕ) (k : ℕ) → Decides (listRows s (length bytes)) k
+      → (listedOf s (length bytes) ≡ listed.Refused (record { number = row (listRows s (length bytes)) k .number; place = row (listRows s (length bytes)) k .place }))
+      × (listingAfter s bytes ≡ bytes)
+  pub list-accepted : (s bytes : List ℕ) → NoneHolds (listRows s (length bytes))
+      → (listedOf s (length bytes) ≡ listed.Bytes (length (listingOf (asks s)))) × (listingAfter s bytes ≡ write bytes 0 (listingOf (asks s)))
 
 -- "The tables equal, word by word, the rounds of source document 000 on the fences of document 01. A sheet that is read and written back gives the
 -- same bytes; numbers that are written and read back are the same numbers, but that with two criteria the unused ratio comes back as 0 over 1."
@@ -47,10 +66,6 @@ pub record Demand2 : Type 0 where
       → (laddersAfter (asked q arcs) buffer (length labels) ≡ write buffer 0 (ladders (asked q arcs))) × (labelsAfter (asked q arcs) (length buffer) labels ≡ write labels 0 (table (asked q arcs)))
   pub bytes : SameBytes
   pub numbers : SameNumbers
-
--- the label of layer i, node v, cell c in a caller's buffer: it "starts at word ((i × N + v) × C + c) × (d+2)"
-unfoldable pub labelIn : Req → List ℕ → ℕ → ℕ → ℕ → List ℕ
-labelIn R W i v c = part W (((i * R .nodes + v) * cells R + c) * width R) (width R)
 
 -- layer i of the buffer W "holds a label at that camp" v that covers costs xs with the power h
 pub record HoldsIn (R : Req) (W : List ℕ) (i v h : ℕ) (xs : List ℕ) : Type 0 where
@@ -77,6 +92,11 @@ pub record Demand3 (q : Request) (arcs buffer labels : List ℕ) (t : ℕ) : Typ
       → HoldsIn (asked q arcs) (labelsAfter (asked q arcs) (length buffer) labels) i v (length ws) (sums (asked q arcs) ws)
   pub back : (i v c : ℕ) → i ≤ q .hops → v < q .nodes → c < cells (asked q arcs) → T (filled (asked q arcs) (labelIn (asked q arcs) (labelsAfter (asked q arcs) (length buffer) labels) i v c))
       → WalkIn (asked q arcs) (labelsAfter (asked q arcs) (length buffer) labels) i v c
+  -- and so the read-back answers, into any route buffer of K words or more
+  pub reads-back : (route : List ℕ) (i v c : ℕ) → q .hops ≤ length route → i ≤ q .hops → v < q .nodes → c < cells (asked q arcs)
+      → T (filled (asked q arcs) (labelIn (asked q arcs) (labelsAfter (asked q arcs) (length buffer) labels) i v c))
+      → (ws : List ℕ) × (endingOf (asked q arcs) (labelsAfter (asked q arcs) (length buffer) labels) (length route) i v c ≡ ending.Route (length ws))
+      × RouteRead (asked q arcs) (labelsAfter (asked q arcs) (length buffer) labels) route i v c (length ws) ws
   pub tries-are : t ≡ tries (asked q arcs) (q .hops)
   pub tries-most : t ≤ q .hops * (arcCount (asked q arcs) * cells (asked q arcs))
   pub cells-are : cells (asked q arcs) ≡ upTo (λ j n. n * buckets (asked q arcs) j) 1 (q .criteria - 1)
@@ -85,3 +105,9 @@ pub record Demand3 (q : Request) (arcs buffer labels : List ℕ) (t : ℕ) : Typ
   -- what keeps every cost within its ladder
   pub costs-most : (i v c : ℕ) → i ≤ q .hops → v < q .nodes → c < cells (asked q arcs) → T (filled (asked q arcs) (labelIn (asked q arcs) (labelsAfter (asked q arcs) (length buffer) labels) i v c))
       → (j : ℕ) → getD (costs (asked q arcs) (labelIn (asked q arcs) (labelsAfter (asked q arcs) (length buffer) labels) i v c)) j 0 ≤ i * largest (asked q arcs) j
+
+-- and of any words for a table: a route that is answered is a walk from the source to the asked camp, with exactly the answered sums
+abbrev pub AnyRoute : Type 0
+AnyRoute =
+    (q : Request) (arcs labels buffer : List ℕ) (i v c n : ℕ) → endingOf (asked q arcs) labels (length buffer) i v c ≡ ending.Route n
+    → RouteRead (asked q arcs) labels buffer i v c n (arcsOf (chain (asked q arcs) labels i v c))
