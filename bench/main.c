@@ -1,4 +1,5 @@
-/* Measures the proved build against plain C on the same inputs, in one process. Each row first compares every word. */
+/* Measures the proved build against plain C on the same inputs, in one process. Each row first compares every word. Then the whole
+ * C call, from a sheet's bytes to its listing's. */
 #include <stdint.h>
 #include <stdio.h>
 #include <string.h>
@@ -90,6 +91,26 @@ static uint64_t run(int which, const struct input *in) {
     return plain_build_by_climbing(in->request, arcs, in->m, shape, ladders[1], labels[1]);
 }
 
+/* The shortest of many proved builds of one table and nothing else: the same nodes, hops and ladders, but a single arc, of the largest
+ * costs, which leads from a node that nothing reaches. So no label is tried: the layers are cleared and kept, as in every build. */
+static double lay_out(const struct row *row, const struct input *in) {
+    uint32_t arc[5] = {1, 1, 0, 0, 0};
+    for (uint32_t a = 0; a < in->m; a++)
+        for (uint32_t j = 0; j < row->criteria; j++) {
+            uint32_t cost = arcs[a * (row->criteria + 2) + 2 + j];
+            if (arc[2 + j] < cost)
+                arc[2 + j] = cost;
+        }
+    double best = 1e9, until = now() + 0.1;
+    for (double begun = now(), ended; begun < until; begun = ended) {
+        gowkaroo_build(in->request, arc, row->criteria + 2, ladders[0], GOWKAROO_MOST_LADDER_WORDS, labels[0], GOWKAROO_MOST_LABEL_WORDS);
+        ended = now();
+        if (ended - begun < best)
+            best = ended - begun;
+    }
+    return best;
+}
+
 static int measure(const struct row *row) {
     struct input in = {{row->nodes, row->criteria, 0, row->hops, row->p, row->q, row->p, row->q}, row->arcs, row->arcs * (row->criteria + 2), {{0, 0}, 0, 0, 0}};
     draw(row);
@@ -123,18 +144,55 @@ static int measure(const struct row *row) {
                     best[which] = ended - begun;
             }
         }
-    printf("| %u | %u | %u | %u | %u/%u | %u | %s | %u | %lu | %.3f | %.3f | %.3f | %.2f | %.2f | %.1f |\n", row->nodes, row->arcs, row->hops, row->criteria,
+    printf("| %u | %u | %u | %u | %u/%u | %u | %s | %u | %lu | %.3f | %.3f | %.3f | %.2f | %.2f | %.1f | %.0f%% |\n", row->nodes, row->arcs, row->hops, row->criteria,
            row->p, row->q, row->most, row->costs == RANDOM ? "random" : "opposed", in.shape.cells, (unsigned long)tries, best[0] * 1e3, best[1] * 1e3,
-           best[2] * 1e3, best[0] / best[1], best[0] / best[2], (double)tries / best[0] / 1e6);
+           best[2] * 1e3, best[0] / best[1], best[0] / best[2], (double)tries / best[0] / 1e6, 100 * lay_out(row, &in) / best[0]);
     fflush(stdout);
     return 0;
 }
 
+/* The shortest of many whole C calls on a sheet. */
+static int list(const char *name, const uint8_t *sheet, size_t bytes) {
+    static uint8_t listing[GOWKAROO_MOST_LISTING_BYTES];
+    uint64_t answer = 0;
+    double best = 1e9, until = now() + 0.3;
+    for (double begun = now(), ended; begun < until; begun = ended) {
+        answer = gowkaroo_list(sheet, bytes, listing, sizeof listing);
+        ended = now();
+        if (ended - begun < best)
+            best = ended - begun;
+    }
+    if (gowkaroo_number(answer) != GOWKAROO_DONE) {
+        printf("%s: refused %u, place %u\n", name, gowkaroo_number(answer), gowkaroo_low(answer));
+        return 1;
+    }
+    printf("| %s | %lu | %u | %.1f |\n", name, (unsigned long)bytes, gowkaroo_low(answer), best * 1e6);
+    return 0;
+}
+
+/* The document's example, and a sheet of about as many bytes as a sheet may have. */
+static int list_sheets(void) {
+    static const char example[] = "tracks\t4\t2\narc\t0\t1\t4\t5\narc\t0\t1\t6\t3\narc\t0\t2\t1\t9\narc\t1\t3\t2\t2\narc\t2\t3\t6\t1\nask\t0\t2\t1\t1\n";
+    static const struct row full = {16, 478, 5, 2, 1, 2, 400, OPPOSED};
+    static uint8_t sheet[GOWKAROO_MOST_SHEET_BYTES];
+    uint32_t request[GOWKAROO_REQUEST_WORDS] = {full.nodes, full.criteria, 0, full.hops, full.p, full.q, 0, 1};
+    draw(&full);
+    uint64_t written = gowkaroo_write(request, arcs, full.arcs * (full.criteria + 2), sheet, sizeof sheet);
+    if (gowkaroo_number(written) != GOWKAROO_DONE) {
+        printf("a full sheet: refused %u, place %u\n", gowkaroo_number(written), gowkaroo_low(written));
+        return 1;
+    }
+    printf("\n| the whole C call | sheet bytes | listing bytes | microseconds |\n|--|--|--|--|\n");
+    if (list("the document's example", (const uint8_t *)example, sizeof example - 1) != 0)
+        return 1;
+    return list("a full sheet", sheet, gowkaroo_low(written));
+}
+
 int main(void) {
-    printf("| N | M | K | d | ratio | costs to | costs | C | tries | proved, ms | halving, ms | climbing, ms | to halving | to climbing | million tries/s |\n");
-    printf("|--|--|--|--|--|--|--|--|--|--|--|--|--|--|--|\n");
+    printf("| N | M | K | d | ratio | costs to | costs | C | tries | proved, ms | halving, ms | climbing, ms | to halving | to climbing | million tries/s | laying out |\n");
+    printf("|--|--|--|--|--|--|--|--|--|--|--|--|--|--|--|--|\n");
     for (size_t i = 0; i < sizeof rows / sizeof rows[0]; i++)
         if (measure(&rows[i]) != 0)
             return 1;
-    return 0;
+    return list_sheets();
 }
