@@ -1,4 +1,3 @@
 pub mod Candidates
 pub mod Places
-pub mod Keeping
 pub mod Finding

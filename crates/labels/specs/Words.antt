@@ -1,24 +1,19 @@
 -- What is done to one label's words, in terms of the number of criteria d alone, and what the functions ask. Assumes nothing.
 use Prim.Native.Nat.{ℕ, _+_, _≤_, _<_}
 use mathlib.Core.Path.{_≡_}
-use mathlib.Core.Bool.{Bool, cond, not, _||_}
+use mathlib.Core.Bool.{Bool, not, _||_}
 use mathlib.Core.List.{List}
-use lib.ListN.{length, getD, take, replicate}
+use lib.ListN.{length, getD, take}
 use lib.Dec.{ltb}
 use Rattle.words.specs.Loops.{total}
 use Rattle.words.specs.Pieces.{part}
 use Rattle.words.specs.Radix.{volume, radix}
 use Rattle.fences.specs.Answer.{Bracket, Slot}
 use Rattle.request.specs.Request.{lower}
-use Rattle.rounds.specs.Label.{label}
 
 -- `wins`, on words: the old label is empty, or the tie rule says so
 unfoldable pub winsOver : ℕ → List ℕ → List ℕ → Bool
 winsOver d l old = not (ltb 0 (getD old d 0)) || lower d (take d l) (take d old)
-
--- `keepCell`, on words: a filled label kept, an empty one for an empty one
-unfoldable pub keepWords : ℕ → List ℕ → List ℕ
-keepWords d l = cond (ltb 0 (getD l d 0)) (label (take d l) 2 0) (replicate (d + 2) 0)
 
 -- ---- what the functions ask and find
 

@@ -1,14 +1,12 @@
-// What the rounds do to one label's words: make a candidate, find its cell, place it, keep a label.
+// What a try does to one label's words: make a candidate, find its cell, place it.
 use fences::seek;
-use words::clear;
 use words::copy;
 ghost use mathlib.Core.Path.{_≡_};
 ghost use mathlib.Core.Bool.{cond};
 ghost use Prim.Native.Nat.{ℕ, _+_, _≤_, _<_};
-ghost use lib.ListN.{length, take, drop};
-ghost use Rattle.words.specs.Pieces.{part, write};
+ghost use lib.ListN.{length, getD, take, drop};
 ghost use Rattle.rounds.specs.Label.{label, sum};
-ghost use Rattle.labels.specs.Words.{winsOver, keepWords, Adds, Seeks, Found-at};
+ghost use Rattle.labels.specs.Words.{winsOver, Adds, Seeks, Found-at};
 
 // The candidate that a label's costs, an arc's costs and two words make.
 pub fn add_costs(out: &mut [u32], lab: &[u32], arc: &[u32], d: usize, step: u32, from: u32)
@@ -45,34 +43,6 @@ pub fn place(cell: &mut [u32], cand: &[u32], d: usize)
     }
 }
 
-// The costs of the label at `at`, kept at `to`, word by word.
-fn keep_costs(labels: &mut [u32], at: usize, to: usize, d: usize)
-    requires { ⌜ (at + d + 2 ≤ to) × (to + d + 2 ≤ length (now labels)) ⌝ }
-    ensures { λ _. ⌜ now (labels .exit) ≡ write (now (labels .entry)) to (label (part (now (labels .entry)) at d) 2 0) ⌝ }
-{
-    let mut k = 0;
-    while k < d {
-        labels[to + k] = labels[at + k];
-        k += 1;
-    }
-    labels[to + d] = 2;
-    labels[to + d + 1] = 0;
-}
-
-// The label at `at` is kept at `to`; an empty one leaves an empty one.
-pub fn keep(labels: &mut [u32], at: usize, to: usize, d: usize)
-    requires { ⌜ (at + d + 2 ≤ to) × (to + d + 2 ≤ length (now labels)) ⌝ }
-    ensures { λ _. ⌜ now (labels .exit) ≡ write (now (labels .entry)) to (keepWords d (part (now (labels .entry)) at (d + 2))) ⌝ }
-{
-    let step_at = at + d;
-    if labels[step_at] == 0 {
-        let end = to + d + 2;
-        clear(&mut labels[to..end]);
-        return;
-    }
-    keep_costs(labels, at, to, d);
-}
-
 // A cell, and the places that its number is made of.
 pub struct Found {
     pub cell: usize,
@@ -102,6 +72,23 @@ pub fn find_cell(
         cell = cell * size + found;
         at = end;
         j += 1;
+    }
+    Found { cell, places }
+}
+
+// A cell and the places whose number it is, found by division: where to look first for what its label makes.
+pub fn places_of(cell: usize, counts: [usize; 2], graded: usize) -> Found
+    requires { ⌜ (graded ≤ 2) × ((j : ℕ) → j < graded → 0 < getD counts j 0) ⌝ }
+    ensures { λ r. ⌜ (length (r .places) ≡ 2) × ((j : ℕ) → j < graded → getD (r .places) j 0 < getD counts j 0) ⌝ }
+{
+    let mut places = [0usize; 2];
+    let mut rest = cell;
+    let mut j = graded;
+    while 0 < j {
+        j -= 1;
+        let size = counts[j];
+        places[j] = rest % size;
+        rest = rest / size;
     }
     Found { cell, places }
 }

@@ -6,3 +6,5 @@ pub mod Round
 pub mod Costs
 pub mod Tries
 pub mod Table
+pub mod Quiet
+pub mod Settled

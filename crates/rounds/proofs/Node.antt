@@ -1,9 +1,10 @@
 -- The arcs into one node v, offered in table order to its block, where arc a's tail has the block F a: where each label comes from, and that each
 -- try is there or bettered. Assumes nothing.
-use Prim.Native.Nat.{ℕ, _<_}
+use Prim.Native.Nat.{ℕ, _≤_, _<_}
 use mathlib.Core.Path.{_≡_, refl, sym, _∙_, subst}
 use mathlib.Core.Bool.{cond}
 use mathlib.Core.List.{List}
+use native.Mathlib.Nat.{le-refl, le-trans}
 use lib.ListN.{length}
 use lib.Dec.{T, T-not, eqb, eqb→eq, eqb-refl}
 use Rattle.words.specs.Loops.{upTo}
@@ -157,7 +158,8 @@ module _ (R : Req) (ok : Regular R) (F : ℕ → List ℕ) (sized : (a : ℕ) �
   node-origin = node-inv .origin
 
   module _ (Low : List ℕ → List ℕ → Type 0) (fair : Fair (R .rule) Low) where
-    try-good : (a f : ℕ) → a < arcCount R → f < cells R → (X : List ℕ) → length X ≡ span R → (j : ℕ) → j < cells R → (zs : List ℕ) → Good R Low X j zs → Good R Low (tryCell R (F a) a f X) j zs
+    -- one try
+    pub try-good : (a f : ℕ) → a < arcCount R → f < cells R → (X : List ℕ) → length X ≡ span R → (j : ℕ) → j < cells R → (zs : List ℕ) → Good R Low X j zs → Good R Low (tryCell R (F a) a f X) j zs
     unfolding tryCell
     try-good a f in-a in-f X len j h zs g =
         cond-cases (λ Z. Good R Low Z j zs) (filled R (at (width R) (F a) f))
@@ -172,12 +174,15 @@ module _ (R : Req) (ok : Regular R) (F : ℕ → List ℕ) (sized : (a : ℕ) �
         (λ f Y l r. (try-inv a f Y h (eqb→eq (head R a) v t) l (r .0), try-good a f h l Y (r .0 .len) j in-j zs (r .1))) .1)
         (λ _. g)
 
-    -- what B held is there, or bettered
+    -- what B held is there, or bettered, after any number of arcs
+    pub some-keep : (m : ℕ) → m ≤ arcCount R → (c : ℕ) → c < cells R → (zs : List ℕ) → Good R Low B c zs → Good R Low (upTo (nodeArc R F v) B m) c zs
+    some-keep m h c in-c zs g =
+        upTo-keeps (nodeArc R F v) (λ _ X. Inv X × Good R Low X c zs) B m (old-inv, g)
+        (λ a X l r. (arc-inv a X (le-trans l h) (r .0), arc-good a (le-trans l h) X (r .0) c in-c zs (r .1))) .1
+
     pub node-keeps : (c : ℕ) → c < cells R → (zs : List ℕ) → Good R Low B c zs → Good R Low (nodeBlock R F v B) c zs
     unfolding nodeBlock
-    node-keeps c h zs g =
-        upTo-keeps (nodeArc R F v) (λ _ X. Inv X × Good R Low X c zs) B (arcCount R) (old-inv, g)
-        (λ a X l r. (arc-inv a X l (r .0), arc-good a l X (r .0) c h zs (r .1))) .1
+    node-keeps = some-keep (arcCount R) (le-refl (arcCount R))
 
     -- and so is each try whose cell is in range
     module _ (a f : ℕ) (in-a : a < arcCount R) (here : head R a ≡ v) (in-f : f < cells R) (t : T (filled R (at (width R) (F a) f))) (in-c : cell R (cand R (F a) a f) < cells R) where

@@ -1,9 +1,10 @@
 -- A round, node by node: it is the arcs into each node, offered to the kept block. Assumes nothing.
-use Prim.Native.Nat.{ℕ, zero, suc, _*_, _<_}
+use Prim.Native.Nat.{ℕ, zero, suc, _*_, _≤_, _<_}
 use mathlib.Core.Path.{_≡_, refl, sym, ap, _∙_, subst}
 use mathlib.Core.Bool.{cond}
 use mathlib.Core.List.{List}
 use native.Mathlib.Decide.{ℕ-discrete}
+use native.Mathlib.Nat.{le-refl, le-trans}
 use lib.ListN.{length}
 use lib.Dec.{T, not-T, eqb, eqb→eq, eqb-refl}
 use Rattle.words.specs.Loops.{upTo}
@@ -19,7 +20,7 @@ use Rattle.rounds.specs.Rounds.{span, block, tryArc, keepCell, keepBlock
 use Rattle.rounds.proofs.Labels.{empty-length, empty-not-filled, kept-length, kept-costs, kept-filled}
 use Rattle.rounds.proofs.Start.{startLayer-length}
 use Rattle.rounds.proofs.Ties.{Fair}
-use Rattle.rounds.proofs.Node.{Good, Origin, cand, nodeArc, nodeBlock, tryArc-length, node-origin, node-keeps, node-tries}
+use Rattle.rounds.proofs.Node.{Good, Origin, cand, nodeArc, nodeBlock, tryArc-length, node-origin, some-keep, node-tries}
 
 -- ---- what is kept of a block
 
@@ -52,6 +53,16 @@ module _ (R : Req) where
         cond-cases (λ (z : List ℕ). T (filled R z) → T (filled R (at (width R) F c))) (filled R (at (width R) F c)) (λ u _. u) (λ _ u. absurd (empty-not-filled R u))
         (subst (λ (z : List ℕ). T (filled R z)) (keep-cell c h) t)
 
+    -- so what a block holds, its kept block holds
+    pub keep-good : (Low : List ℕ → List ℕ → Type 0) (c : ℕ) → c < cells R → (zs : List ℕ) → Good R Low F c zs → Good R Low (keepBlock R F) c zs
+    keep-good Low c h zs g =
+        let size = at-length (width R) F (cells R) whole c h in
+        let e : at (width R) (keepBlock R F) c ≡ kept R (at (width R) F c) = keep-at c h (g .full) in
+        record {
+          full = subst (λ z. T (filled R z)) (sym e) (kept-filled R (at (width R) F c) size);
+          low = subst (Low zs) (sym (ap (costs R) e ∙ kept-costs R (at (width R) F c) size)) (g .low);
+        }
+
 -- ---- a round is, for each node, the arcs into it
 
 module _ (R : Req) (ok : Regular R) (L : List ℕ) (whole : length L ≡ R .nodes * span R) where
@@ -61,11 +72,11 @@ module _ (R : Req) (ok : Regular R) (L : List ℕ) (whole : length L ≡ R .node
   abbrev Keep : ℕ → List ℕ
   Keep v = keepBlock R (block R L v)
 
-  block-length : (X : List ℕ) → length X ≡ R .nodes * span R → (v : ℕ) → v < R .nodes → length (block R X v) ≡ span R
+  pub block-length : (X : List ℕ) → length X ≡ R .nodes * span R → (v : ℕ) → v < R .nodes → length (block R X v) ≡ span R
   unfolding block
   block-length X e v h = at-length (span R) X (R .nodes) e v h
 
-  keep-sized : (v : ℕ) → v < R .nodes → length (Keep v) ≡ span R
+  pub keep-sized : (v : ℕ) → v < R .nodes → length (Keep v) ≡ span R
   keep-sized v h = keepBlock-length R (block R L v) (block-length L whole v h)
 
   pub keepAll-length : length (keepAll R L) ≡ R .nodes * span R
@@ -101,12 +112,17 @@ module _ (R : Req) (ok : Regular R) (L : List ℕ) (whole : length L ≡ R .node
     each = λ v h. arc-block m X l (s .len) v h (ℕ-discrete v (head R m)) ∙ ap (nodeArc R Fs v m) (s .each v h);
   }
 
-  split : Split (arcCount R) (round R L)
-  unfolding round keepAll block upTo
-  split =
-      upTo-keeps (arcStep R L) Split (keepAll R L) (arcCount R)
+  -- the first m arcs
+  some-arcs : (m : ℕ) → m ≤ arcCount R → Split m (upTo (arcStep R L) (keepAll R L) m)
+  unfolding keepAll block upTo
+  some-arcs m h =
+      upTo-keeps (arcStep R L) Split (keepAll R L) m
       (record { len = join-length (span R) Keep (R .nodes) keep-sized; each = λ v h. join-at (span R) Keep (R .nodes) keep-sized v h })
-      (λ m X l s. split-next m X l s)
+      (λ k X l s. split-next k X (le-trans l h) s)
+
+  split : Split (arcCount R) (round R L)
+  unfolding round
+  split = some-arcs (arcCount R) (le-refl (arcCount R))
 
   pub round-length : length (round R L) ≡ R .nodes * span R
   round-length = split .len
@@ -123,20 +139,16 @@ module _ (R : Req) (ok : Regular R) (L : List ℕ) (whole : length L ≡ R .node
         subst (λ (z : List ℕ). Good R Low z (cell R (cand R (Fs a) a f)) (cand R (Fs a) a f)) (sym (round-block (head R a) (ok .head-in a in-a)))
         (node-tries R ok Fs arcs-sized (head R a) (Keep (head R a)) (keep-sized (head R a) (ok .head-in a in-a)) Low fair a f in-a refl in-f t in-c)
 
+    -- what the layer before held is kept, and stays or is bettered, after any number of arcs
+    pub some-good : (m : ℕ) → m ≤ arcCount R → (v c : ℕ) → v < R .nodes → c < cells R → (zs : List ℕ) → Good R Low (block R L v) c zs → Good R Low (block R (upTo (arcStep R L) (keepAll R L) m) v) c zs
+    some-good m h v c hv hc zs g =
+        subst (λ (z : List ℕ). Good R Low z c zs) (sym (some-arcs m h .each v hv))
+        (some-keep R ok Fs arcs-sized v (Keep v) (keep-sized v hv) Low fair m h c hc zs (keep-good R (block R L v) (block-length L whole v hv) Low c hc zs g))
+
     pub round-keeps : (v c : ℕ) → v < R .nodes → c < cells R → T (filled R (labelOf R L v c)) → Good R Low (block R (round R L) v) c (costs R (labelOf R L v c))
-    unfolding labelOf
+    unfolding labelOf round
     round-keeps v c hv hc t =
-        let F : List ℕ = block R L v in
-        let w = block-length L whole v hv in
-        let size = at-length (width R) F (cells R) w c hc in
-        let e : at (width R) (Keep v) c ≡ kept R (at (width R) F c) = keep-at R F w c hc t in
-        let xs : List ℕ = costs R (at (width R) F c) in
-        subst (λ (z : List ℕ). Good R Low z c xs) (sym (round-block v hv))
-        (node-keeps R ok Fs arcs-sized v (Keep v) (keep-sized v hv) Low fair c hc xs
-        (record {
-          full = subst (λ z. T (filled R z)) (sym e) (kept-filled R (at (width R) F c) size);
-          low = subst (Low xs) (sym (ap (costs R) e ∙ kept-costs R (at (width R) F c) size)) (fair .same xs);
-        }))
+        some-good (arcCount R) (le-refl (arcCount R)) v c hv hc (costs R (at (width R) (block R L v) c)) (record { full = t; low = fair .same (costs R (at (width R) (block R L v) c)) })
 
 -- ---- layers
 

@@ -13,14 +13,14 @@ use Rattle.words.proofs.Pieces.{join-next, join-suc, join-zero, join-length, jo
 use Rattle.words.proofs.Writes.{length-part, length-write, part-write-same, part-write-below, part-write-inside, write-part, write-over, write-append}
 use Rattle.request.specs.Request.{Req, arcCount, reach}
 use Rattle.request.specs.Accepted.{Regular}
-use Rattle.rounds.specs.Label.{costs}
-use Rattle.rounds.specs.Rounds.{block, keepAll, arcStep, round, roundTries, startLayer, layer, table, tries, labelOf, labelAt}
+use Rattle.rounds.specs.Rounds.{block, keepAll, arcStep, round, roundTries, startLayer, layer, table, tries}
 use Rattle.rounds.proofs.Round.{keepAll-length, round-length, layer-length}
 use Rattle.rounds.proofs.Start.{startLayer-length}
 use Rattle.rounds.proofs.Table.{table-length}
-use Rattle.rounds.proofs.Costs.{layer-costs, room-for-arc}
-use Rattle.tries.specs.Frame.{Room}
-use Rattle.table.specs.Build.{Layered}
+use Rattle.rounds.specs.Settled.{Room, Settled}
+use Rattle.rounds.proofs.Settled.{layer-room, layer-settled}
+use Rattle.rounds.proofs.Ties.{Fair, Stays}
+use Rattle.table.specs.Build.{Layered, Notes}
 use Rattle.table.proofs.Passing.{layerWords}
 
 -- ---- one round
@@ -32,24 +32,36 @@ module _ (R : Req) (ok : Regular R) (xs : List ℕ) (prev base : ℕ) (p : Layer
   long : length (part xs prev (layerWords R)) ≡ layerWords R
   long = let b = p .below in let i = p .inside in length-part xs prev (layerWords R) (omega arith)
 
-  -- keeping and then passing the arcs is the round
-  pub round-law : (ls ls′ : List ℕ) → ls ≡ write xs base (keepAll R (part xs prev (layerWords R)))
-      → ls′ ≡ write ls base (upTo (arcStep R (part ls prev (layerWords R))) (part ls base (layerWords R)) (arcCount R)) → ls′ ≡ write xs base (round R (part xs prev (layerWords R)))
-  unfolding round
-  round-law ls ls′ e e′ =
-      let K : List ℕ = keepAll R L in
-      let size : length K ≡ layerWords R = keepAll-length R ok L long in
-      let i = p .inside in
-      let before : part ls prev (layerWords R) ≡ L = ap (λ (l : List ℕ). part l prev (layerWords R)) e ∙ part-write-below xs base K prev (layerWords R) (p .below) in
-      let here : part ls base (layerWords R) ≡ K = ap (λ (l : List ℕ). part l base (layerWords R)) e ∙ ap (part (write xs base K) base) (sym size) ∙ part-write-same xs base K (omega arith) in
-      e′
-      ∙ ap₂ (λ (X Y : List ℕ). write ls base (upTo (arcStep R X) Y (arcCount R))) before here
-      ∙ ap (λ (l : List ℕ). write l base (round R L)) e
-      ∙ write-over xs base K (round R L) (le-of-eq (size ∙ sym (round-length R ok L long)))
+  -- ls holds what was kept
+  module _ (ls : List ℕ) (e : ls ≡ write xs base (keepAll R (part xs prev (layerWords R)))) where
+    kept-long : length (keepAll R L) ≡ layerWords R
+    kept-long = keepAll-length R ok L long
 
-  -- its tries are those of the layer before
-  pub round-tries : (ls : List ℕ) → ls ≡ write xs base (keepAll R (part xs prev (layerWords R))) → roundTries R (part ls prev (layerWords R)) ≡ roundTries R (part xs prev (layerWords R))
-  round-tries ls e = ap (roundTries R) (ap (λ (l : List ℕ). part l prev (layerWords R)) e ∙ part-write-below xs base (keepAll R L) prev (layerWords R) (p .below))
+    before : part ls prev (layerWords R) ≡ L
+    before = ap (λ (l : List ℕ). part l prev (layerWords R)) e ∙ part-write-below xs base (keepAll R L) prev (layerWords R) (p .below)
+
+    here : part ls base (layerWords R) ≡ keepAll R L
+    here = ap (λ (l : List ℕ). part l base (layerWords R)) e ∙ ap (part (write xs base (keepAll R L)) base) (sym kept-long) ∙ part-write-same xs base (keepAll R L) (omega (arith, p, kept-long))
+
+    -- of the layer before, which is as it was, and so is what was noted of it
+    pub kept-here : part ls base (layerWords R) ≡ keepAll R (part ls prev (layerWords R))
+    kept-here = here ∙ ap (keepAll R) (sym before)
+
+    pub notes-here : (fs los his : List ℕ) → Notes R (part xs prev (layerWords R)) fs los his → Notes R (part ls prev (layerWords R)) fs los his
+    notes-here fs los his n = subst (λ (X : List ℕ). Notes R X fs los his) (sym before) n
+
+    -- keeping and then passing the arcs is the round
+    pub round-law : (ls′ : List ℕ) → ls′ ≡ write ls base (upTo (arcStep R (part ls prev (layerWords R))) (part ls base (layerWords R)) (arcCount R)) → ls′ ≡ write xs base (round R (part xs prev (layerWords R)))
+    unfolding round
+    round-law ls′ e′ =
+        e′
+        ∙ ap₂ (λ (X Y : List ℕ). write ls base (upTo (arcStep R X) Y (arcCount R))) before here
+        ∙ ap (λ (l : List ℕ). write l base (round R L)) e
+        ∙ write-over xs base (keepAll R L) (round R L) (le-of-eq (kept-long ∙ sym (round-length R ok L long)))
+
+    -- its tries are those of the layer before
+    pub round-tries : roundTries R (part ls prev (layerWords R)) ≡ roundTries R (part xs prev (layerWords R))
+    round-tries = ap (roundTries R) before
 
 -- ---- all layers
 
@@ -119,17 +131,17 @@ module _ (R : Req) where
           ∙ ap (λ (b : ℕ). part (join (layer R) (i + 1)) b (layerWords R)) (g .begins)
           ∙ join-at (layerWords R) (layer R) (i + 1) (λ k _. layer-length R ok k) i (omega arith)
 
-      -- and leaves room for one arc more
-      pub next-layered : Layered R ls base (base + layerWords R)
-      unfolding Room reach labelAt labelOf
-      next-layered =
+      -- and leaves room for one arc more, and is settled
+      pub next-layered : Fair (R .rule) (Stays (R .rule)) → Layered R ls base (base + layerWords R)
+      unfolding reach
+      next-layered fair =
           let e = ends in
           let d = drawn-length in
           record {
             below = omega arith;
             inside = omega arith;
-            rooms = λ v hv. subst (λ (X : List ℕ). Room R (block R X v)) (sym layer-at)
-                (λ c hc t j. room-for-arc R i (costs R (labelAt R i v c)) l (layer-costs R ok i v c hv hc t) j);
+            rooms = λ v hv. subst (λ (X : List ℕ). Room R (block R X v)) (sym layer-at) (layer-room R ok i v l hv);
+            settled = subst (Settled R) (sym layer-at) (layer-settled R ok fair i (omega arith));
           }
 
       -- layer i + 1 joins them

@@ -39,6 +39,7 @@ module _ (s : Frame) (arcs ladders : List ℕ) (f : Framed (asked (s .request) a
     pub nodes-few : s .request .nodes ≤ 64
     pub small : s .span ≤ 6000000
     pub all : s .request .nodes * s .span ≡ s .request .nodes * span (asked (s .request) arcs)
+    pub tail-is : getD arcs (a * s .w) 0 ≡ tail (asked (s .request) arcs) a
     pub tail-in : getD arcs (a * s .w) 0 < s .request .nodes
     pub head-in : getD arcs (a * s .w + 1) 0 < s .request .nodes
     pub tail-end : getD arcs (a * s .w) 0 * s .span + s .span ≤ s .request .nodes * s .span
@@ -63,6 +64,7 @@ module _ (s : Frame) (arcs ladders : List ℕ) (f : Framed (asked (s .request) a
         nodes-few = f .bounded .nodes-few;
         small = f .sized .small;
         all = ap (λ (n : ℕ). s .request .nodes * n) e;
+        tail-is = t;
         tail-in = u;
         head-in = v;
         tail-end = piece-end (s .span) (s .request .nodes) (getD arcs (a * s .w) 0) u;

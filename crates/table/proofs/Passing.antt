@@ -3,21 +3,24 @@ use Prim.Native.Nat.{ℕ, _+_, _*_, _≤_, _<_, zero-le}
 use mathlib.Core.Path.{_≡_, sym, ap, ap₂, _∙_, subst}
 use mathlib.Core.List.{List}
 use native.Mathlib.Omega.{arith}
-use lib.ListN.{length}
+use lib.ListN.{length, getD}
 use Rattle.words.specs.Loops.{upTo, total}
 use Rattle.words.specs.Pieces.{part, at, put, write}
 use Rattle.words.proofs.Loops.{total-zero, total-next, total-le}
 use Rattle.words.proofs.Pieces.{piece-end, put-length, at-length}
-use Rattle.words.proofs.Turns.{turned, loop-starts, loop-turns}
-use Rattle.words.proofs.Writes.{length-part, length-write, part-part, part-write-below, write-nest}
+use Rattle.words.proofs.Turns.{turned, loop-starts, loop-turns, loop-long}
+use Rattle.words.proofs.Writes.{length-part, length-write, part-part, part-write-same, part-write-below, write-nest}
 use Rattle.request.specs.Request.{Req, arcCount, tail, head}
 use Rattle.request.specs.Shape.{cells}
 use Rattle.request.specs.Accepted.{Regular}
-use Rattle.rounds.specs.Rounds.{span, block, tryArc, arcStep, filledIn, roundTries}
+use Rattle.rounds.specs.Rounds.{span, block, keepAll, tryArc, arcStep, filledIn, roundTries}
+use Rattle.rounds.specs.Settled.{Room, Settled}
 use Rattle.rounds.proofs.Node.{tryArc-length}
 use Rattle.rounds.proofs.Tries.{filledIn-le}
-use Rattle.tries.specs.Frame.{Room, Apart}
-use Rattle.table.specs.Build.{Layered}
+use Rattle.rounds.proofs.Settled.{round-tried}
+use Rattle.rounds.proofs.Ties.{Fair, Stays}
+use Rattle.tries.specs.Frame.{Apart, Ranged}
+use Rattle.table.specs.Build.{Layered, Notes}
 
 -- the words of a layer
 abbrev pub layerWords : Req → ℕ
@@ -37,8 +40,12 @@ pub layered-later : (R : Req) (xs ls cur : List ℕ) (prev base : ℕ) → Layer
 layered-later R xs ls cur prev base p e = record {
   below = p .below;
   inside = (let i = p .inside in let n = ap length e ∙ length-write xs base cur in omega arith);
-  rooms = λ v h. subst (λ (L : List ℕ). Room R (block R L v)) (sym (ap (λ (l : List ℕ). part l prev (layerWords R)) e ∙ part-write-below xs base cur prev (layerWords R) (p .below))) (p .rooms v h);
+  rooms = λ v h. subst (λ (L : List ℕ). Room R (block R L v)) (sym same) (p .rooms v h);
+  settled = subst (Settled R) (sym same) (p .settled);
 }
+  where
+    same : part ls prev (layerWords R) ≡ part xs prev (layerWords R)
+    same = ap (λ (l : List ℕ). part l prev (layerWords R)) e ∙ part-write-below xs base cur prev (layerWords R) (p .below)
 
 module _ (R : Req) (xs : List ℕ) (prev base : ℕ) where
   -- what arc k makes of the two layers
@@ -91,9 +98,30 @@ module _ (R : Req) (xs : List ℕ) (prev base : ℕ) where
       head-block : part ls to (span R) ≡ block R (part ls base (layerWords R)) (head R a)
       head-block = ap (λ (x : ℕ). part ls x (span R)) e-to ∙ block-in R ls base (head R a) (ok .head-in a in-a)
 
-      -- its two blocks stand apart
-      pub arc-apart : Apart R ls from to
-      arc-apart =
+      -- the head's block, after the arcs before this one
+      head-now : part xs base (layerWords R) ≡ keepAll R (part xs prev (layerWords R)) → part ls to (span R) ≡ block R (upTo (arcStep R (part xs prev (layerWords R))) (keepAll R (part xs prev (layerWords R))) a) (head R a)
+      head-now kept =
+          let size = loop-long xs prev (layerWords R) base (layerWords R) step (p .below) (p .inside) (λ k cur size. step-length (part xs prev (layerWords R)) k cur ∙ size) a in
+          head-block
+          ∙ ap (λ (l : List ℕ). block R (part l base (layerWords R)) (head R a)) (g .words)
+          ∙ ap (λ (n : ℕ). block R (part (write xs base (turned xs prev (layerWords R) base (layerWords R) step a)) base n) (head R a)) (sym size)
+          ∙ ap (λ (X : List ℕ). block R X (head R a)) (part-write-same xs base (turned xs prev (layerWords R) base (layerWords R) step a) (omega (arith, p, size)))
+          ∙ ap (λ (X : List ℕ). block R (upTo (arcStep R (part xs prev (layerWords R))) X a) (head R a)) kept
+
+      tail-before : part ls from (span R) ≡ block R (part xs prev (layerWords R)) (tail R a)
+      tail-before = tail-block ∙ ap (λ (L : List ℕ). block R L (tail R a)) before
+
+      -- what was noted of its tail
+      module _ (filled lows highs : List ℕ) (notes : Notes R (part xs prev (layerWords R)) filled lows highs) where
+        pub tail-range : (low high : ℕ) → low ≡ getD lows (tail R a) 0 → high ≡ getD highs (tail R a) 0 → Ranged R (part ls from (span R)) low high
+        tail-range low high e-l e-h = rw (e-l, e-h, tail-before) (notes .ranges (tail R a) (ok .tail-in a in-a))
+
+        pub tail-count : (n : ℕ) → n ≡ getD filled (tail R a) 0 → n ≡ filledIn R (block R (part xs prev (layerWords R)) (tail R a))
+        tail-count n e = e ∙ notes .counts (tail R a) (ok .tail-in a in-a)
+
+      -- its two blocks stand apart, and what its tail kept was tried
+      pub arc-apart : Fair (R .rule) (Stays (R .rule)) → part xs base (layerWords R) ≡ keepAll R (part xs prev (layerWords R)) → Apart R ls from to a
+      arc-apart fair kept =
           let t = piece-end (span R) (R .nodes) (tail R a) (ok .tail-in a in-a) in
           let h = piece-end (span R) (R .nodes) (head R a) (ok .head-in a in-a) in
           let b = later .below in
@@ -102,6 +130,8 @@ module _ (R : Req) (xs : List ℕ) (prev base : ℕ) where
             below = omega arith;
             inside = omega arith;
             room = subst (Room R) (sym tail-block) (later .rooms (tail R a) (ok .tail-in a in-a));
+            tried = rw (tail-before, head-now kept)
+                (round-tried R ok fair (part xs prev (layerWords R)) (length-part xs prev (layerWords R) (omega (arith, p))) (p .rooms) (p .settled) a (omega arith) a in-a);
           }
 
       -- and its tries are a step of the round
@@ -119,14 +149,10 @@ module _ (R : Req) (xs : List ℕ) (prev base : ℕ) where
           ∙ write-nest ls base (layerWords R) (head R a * span R) made (omega arith)
 
       -- arc a joins those before it
-      pub one-arc : (ls′ : List ℕ) (n : ℕ) → ls′ ≡ write ls to (tryArc R (part ls from (span R)) a (part ls to (span R))) → n ≡ filledIn R (part ls from (span R)) → Along ls′ (tries + n) (a + 1)
+      pub one-arc : (ls′ : List ℕ) (n : ℕ) → ls′ ≡ write ls to (tryArc R (part ls from (span R)) a (part ls to (span R))) → n ≡ filledIn R (block R (part xs prev (layerWords R)) (tail R a)) → Along ls′ (tries + n) (a + 1)
       one-arc ls′ n e e-n = record {
         inside = omega arith;
         words = loop-turns xs prev (layerWords R) base (layerWords R) step (p .below) (p .inside)
             (λ k cur size. step-length (part xs prev (layerWords R)) k cur ∙ size) ls ls′ a (g .words) (arc-step ls′ e);
-        count =
-            (let f = e-n ∙ ap (filledIn R) (tail-block ∙ ap (λ (L : List ℕ). block R L (tail R a)) before) in
-            let m = total-next (λ a. filledIn R (block R (part xs prev (layerWords R)) (tail R a))) a in
-            let c = g .count in
-            omega arith);
+        count = omega (arith, e-n, g .count, total-next (λ a. filledIn R (block R (part xs prev (layerWords R)) (tail R a))) a);
       }

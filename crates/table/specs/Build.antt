@@ -1,5 +1,6 @@
 -- The build: its refusals in document 01's order, its answer, and every word of its two lent buffers. Assumes nothing.
 use Prim.Native.Nat.{ℕ, _+_, _*_, _≤_, _<_}
+use mathlib.Core.Path.{_≡_}
 use mathlib.Core.Bool.{Bool, cond}
 use mathlib.Core.List.{List, [], _∷_, _++_}
 use lib.ListN.{length, getD, set, replicate}
@@ -13,8 +14,9 @@ use Rattle.request.specs.Rows.{rows}
 use Rattle.request.specs.declared.Request.{Request}
 use Rattle.request.specs.declared.Shape.{Shape}
 use Rattle.tries.specs.declared.Frame.{Frame}
-use Rattle.rounds.specs.Rounds.{span, block, table, tries}
-use Rattle.tries.specs.Frame.{Room}
+use Rattle.rounds.specs.Rounds.{span, block, filledIn, table, tries}
+use Rattle.rounds.specs.Settled.{Room, Settled}
+use Rattle.tries.specs.Frame.{Ranged}
 use Rattle.table.specs.declared.Built.{Built}
 use Rattle.table.specs.declared.Built.the-variants as built
 
@@ -56,8 +58,17 @@ ladderWords b1 b2 graded = total (λ j. getD (b1 ∷ b2 ∷ []) j 0 + 1) graded
 unfoldable pub startWords : ℕ → ℕ → Bool → List ℕ
 startWords n d here = cond here (set (replicate n 0) d 1) (replicate n 0)
 
--- the layer before ends at or before the layer that is written begins, and leaves room for one arc more
+-- the layer before ends at or before the layer that is written begins, leaves room for one arc more, and is settled
 pub record Layered (R : Req) (labels : List ℕ) (prev base : ℕ) : Type 0 where
   pub below : prev + R .nodes * span R ≤ base
   pub inside : base + R .nodes * span R ≤ length labels
   pub rooms : (v : ℕ) → v < R .nodes → Room R (block R (part labels prev (R .nodes * span R)) v)
+  pub settled : Settled R (part labels prev (R .nodes * span R))
+
+-- what is noted of each node of layer L: its filled cells, and the range of those that are neither empty nor kept
+pub record Notes (R : Req) (L filled lows highs : List ℕ) : Type 0 where
+  pub filled-long : R .nodes ≤ length filled
+  pub lows-long : R .nodes ≤ length lows
+  pub highs-long : R .nodes ≤ length highs
+  pub counts : (v : ℕ) → v < R .nodes → getD filled v 0 ≡ filledIn R (block R L v)
+  pub ranges : (v : ℕ) → v < R .nodes → Ranged R (block R L v) (getD lows v 0) (getD highs v 0)

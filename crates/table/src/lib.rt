@@ -1,5 +1,5 @@
 // The label table: layer 0, the rounds, and the build that checks a request and draws its table up in the lent buffers.
-use labels::keep;
+use keeping::keep_layer;
 use request::Checked;
 use request::Refusal;
 use request::Request;
@@ -15,14 +15,13 @@ ghost use Prim.Native.Nat.{ℕ, _+_, _-_, _*_, _≤_, _<_};
 ghost use lib.ListN.{length, set, replicate};
 ghost use lib.Dec.{eqb};
 ghost use Rattle.words.specs.Loops.{upTo};
-ghost use Rattle.words.specs.Pieces.{part, at, write, join};
+ghost use Rattle.words.specs.Pieces.{part, write, join};
 ghost use Rattle.request.specs.Request.{asked, arcCount};
 ghost use Rattle.request.specs.Accepted.{Accepted};
 ghost use Rattle.request.specs.Answer.{shapeOf};
-ghost use Rattle.labels.specs.Words.{keepWords};
-ghost use Rattle.rounds.specs.Rounds.{span, startLayer, arcStep, round, roundTries, table, tries};
+ghost use Rattle.rounds.specs.Rounds.{span, startLayer, keepAll, arcStep, round, roundTries, table, tries};
 ghost use Rattle.tries.specs.Frame.{Framed};
-ghost use Rattle.table.specs.Build.{startWords, Layered, frameOf, ladderWords, builtOf, laddersAfter, labelsAfter};
+ghost use Rattle.table.specs.Build.{startWords, Layered, Notes, frameOf, ladderWords, builtOf, laddersAfter, labelsAfter};
 
 // How many tries the rounds made, or the first refusal.
 pub enum Built {
@@ -64,34 +63,23 @@ fn start_layer(labels: &mut [u32], n: usize, source: usize, d: usize, span: usiz
     }
 }
 
-// Every filled label of the n at `prev`, kept at `base`; an empty one for each empty one.
-fn keep_layer(labels: &mut [u32], n: usize, d: usize, prev: usize, base: usize)
-    requires { ⌜ (prev + n * (d + 2) ≤ base) × (base + n * (d + 2) ≤ length (now labels)) × (d ≤ 3) ⌝ }
-    ensures { λ _. ⌜ now (labels .exit) ≡ write (now (labels .entry)) base (join (λ j. keepWords d (at (d + 2) (part (now (labels .entry)) prev (n * (d + 2))) j)) n) ⌝ }
-{
-    let w = d + 2;
-    let mut at = prev;
-    let mut to = base;
-    let mut j = 0;
-    while j < n {
-        keep(labels, at, to, d);
-        at += w;
-        to += w;
-        j += 1;
-    }
-}
-
-// All arcs, in table order, from the layer at `prev` into the layer at `base`: how many tries.
+// All arcs, in table order, from the layer at `prev` into the layer at `base`, which holds what was kept of it: how many tries.
+// A try is counted for every filled label of an arc's tail; only the range that was noted for the tail is looked at.
 fn try_arcs(
     labels: &mut [u32],
     arcs: &[u32],
     ladders: &[u32],
+    filled: &[u64],
+    lows: &[usize],
+    highs: &[usize],
     s: Frame,
     prev: usize,
     base: usize,
 ) -> u64
     requires { ⌜ Framed (asked (s .request) (now arcs)) s (now ladders) ⌝ }
     requires { ⌜ Layered (asked (s .request) (now arcs)) (now labels) prev base ⌝ }
+    requires { ⌜ part (now labels) base (s .request .nodes * span (asked (s .request) (now arcs))) ≡ keepAll (asked (s .request) (now arcs)) (part (now labels) prev (s .request .nodes * span (asked (s .request) (now arcs)))) ⌝ }
+    requires { ⌜ Notes (asked (s .request) (now arcs)) (part (now labels) prev (s .request .nodes * span (asked (s .request) (now arcs)))) (now filled) (now lows) (now highs) ⌝ }
     ensures { λ _. ⌜ now (labels .exit) ≡ write (now (labels .entry)) base (upTo (arcStep (asked (s .request) (now (arcs .entry))) (part (now (labels .entry)) prev (s .request .nodes * span (asked (s .request) (now (arcs .entry)))))) (part (now (labels .entry)) base (s .request .nodes * span (asked (s .request) (now (arcs .entry))))) (arcCount (asked (s .request) (now (arcs .entry))))) ⌝ }
     ensures { λ r. ⌜ r ≡ roundTries (asked (s .request) (now (arcs .entry))) (part (now (labels .entry)) prev (s .request .nodes * span (asked (s .request) (now (arcs .entry))))) ⌝ }
 {
@@ -101,9 +89,21 @@ fn try_arcs(
     let mut a = 0;
     while a < m {
         let at = a * w;
-        let from = prev + block_at(s, arcs[at] as usize);
+        let tail = arcs[at] as usize;
+        let from = prev + block_at(s, tail);
         let to = base + block_at(s, arcs[at + 1] as usize);
-        tries += try_arc(labels, arcs, ladders, s, from, to, a);
+        tries += filled[tail];
+        try_arc(
+            labels,
+            arcs,
+            ladders,
+            s,
+            from,
+            to,
+            a,
+            lows[tail],
+            highs[tail],
+        );
         a += 1;
     }
     tries
@@ -124,8 +124,21 @@ fn run_round(
     ensures { λ r. ⌜ r ≡ roundTries (asked (s .request) (now (arcs .entry))) (part (now (labels .entry)) prev (s .request .nodes * span (asked (s .request) (now (arcs .entry))))) ⌝ }
 {
     let n = s.request.nodes as usize;
-    keep_layer(labels, n * s.cells, s.d, prev, base);
-    try_arcs(labels, arcs, ladders, s, prev, base)
+    let mut filled = [0u64; 64];
+    let mut lows = [0usize; 64];
+    let mut highs = [0usize; 64];
+    keep_layer(
+        labels,
+        &mut filled,
+        &mut lows,
+        &mut highs,
+        n,
+        s.cells,
+        s.d,
+        prev,
+        base,
+    );
+    try_arcs(labels, arcs, ladders, &filled, &lows, &highs, s, prev, base)
 }
 
 // All rounds, from a layer 0 that stands at the front of the labels: how many tries.

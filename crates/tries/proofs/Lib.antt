@@ -1,4 +1,5 @@
 pub mod Offering
 pub mod Frames
 pub mod Trying
+pub mod Fresh
 pub mod Arcs

@@ -1,4 +1,4 @@
--- One try, from the words of two blocks: where the label is empty, and where it is filled. Assumes nothing.
+-- One try, of a filled label, from the words of two blocks. Assumes nothing.
 use Prim.Native.Nat.{ℕ, _+_, _-_, _*_, _≤_, _<_}
 use mathlib.Core.Path.{_≡_, refl, sym, ap, ap₂, _∙_, subst}
 use mathlib.Core.Bool.{Bool, true, false, cond}
@@ -6,7 +6,7 @@ use mathlib.Core.List.{List}
 use native.Mathlib.Nat.{add-comm}
 use native.Mathlib.Omega.{arith}
 use lib.ListN.{length, getD, take, drop}
-use borrow.Author.Tests.{lt-ltb, le-ltb}
+use borrow.Author.Tests.{lt-ltb}
 use Rattle.words.specs.Pieces.{part, at, put, write}
 use Rattle.words.proofs.Choices.{true-is}
 use Rattle.words.proofs.Writes.{length-part, getD-part, write-part}
@@ -17,11 +17,12 @@ use Rattle.request.specs.Shape.{cells, cell, top}
 use Rattle.request.proofs.Tops.{arc-le, top-le, cost-at}
 use Rattle.request.proofs.Cells.{cell-ext}
 use Rattle.rounds.specs.Label.{label, sum, costs, step, filled, candidate, came, wins}
-use Rattle.rounds.specs.Rounds.{span, offer, tryCell, bit}
+use Rattle.rounds.specs.Rounds.{span, offer, tryCell}
+use Rattle.rounds.specs.Settled.{Room}
 use Rattle.rounds.proofs.Labels.{getD-sum, came-length, came-costs, cost-word}
 use Rattle.labels.specs.Words.{winsOver, Found-at}
 use Rattle.tries.specs.declared.Frame.{Frame}
-use Rattle.tries.specs.Frame.{offered, extended, Extends, Framed, Room, Apart, Hinted}
+use Rattle.tries.specs.Frame.{offered, extended, Extends, Framed, Apart, Hinted}
 use Rattle.tries.proofs.Frames.{width-is, span-is, label-is, arc-is, volume-is, can-seek, cell-is, found-hints}
 
 -- ---- on words, and as defined
@@ -53,7 +54,7 @@ module _ (q : Request) (arcs : List ℕ) where
 -- ---- the label that is tried
 
 module _ (s : Frame) (arcs ladders labels : List ℕ) (from to a c : ℕ)
-    (f : Framed (asked (s .request) arcs) s ladders) (apart : Apart (asked (s .request) arcs) labels from to) (in-c : c < cells (asked (s .request) arcs)) where
+    (f : Framed (asked (s .request) arcs) s ladders) (apart : Apart (asked (s .request) arcs) labels from to a) (in-c : c < cells (asked (s .request) arcs)) where
   abbrev Q : Req
   Q = asked (s .request) arcs
 
@@ -75,25 +76,11 @@ module _ (s : Frame) (arcs ladders labels : List ℕ) (from to a c : ℕ)
       ∙ ap₂ (λ (x d : ℕ). getD (part labels (from + x) (s .w)) d 0) e (f .d-is)
       ∙ ap (λ (x : List ℕ). getD x (s .request .criteria) 0) (label-is Q s ladders f labels from c in-c)
 
-  -- empty: nothing is tried
   module _ (r : ℕ) (e : r ≡ c * s .w) where
-    pub empty-try : getD labels (from + r + s .d) 0 ≡ 0 → labels ≡ write labels to (tryCell Q F a c B)
-    unfolding tryCell filled
-    empty-try z =
-        sym (ap (λ (b : Bool). write labels to (cond b (offer Q (cell Q (candidate Q a l)) (came Q a c l) B) B)) (le-ltb 0 (step Q l) (let w = step-word r e in omega arith))
-        ∙ write-part labels to (span Q))
-
-    pub empty-bit : getD labels (from + r + s .d) 0 ≡ 0 → (n : ℕ) → n ≡ n + bit (filled Q l)
-    unfolding filled
-    empty-bit z n = let w = step-word r e in let b = ap bit (le-ltb 0 (step Q l) (omega arith)) in omega arith
-
     -- filled: one try
     is-filled : (getD labels (from + r + s .d) 0 ≡ 0 → ⊥) → filled Q l ≡ true
     unfolding filled
     is-filled ne = let w = step-word r e in lt-ltb 0 (step Q l) (omega arith)
-
-    pub filled-bit : (getD labels (from + r + s .d) 0 ≡ 0 → ⊥) → (n : ℕ) → n + 1 ≡ n + bit (filled Q l)
-    filled-bit ne n = ap (λ (b : Bool). n + bit b) (sym (is-filled ne))
 
     module _ (in-a : a < arcCount (asked (s .request) arcs)) (hint : List ℕ) (hinted : Hinted (asked (s .request) arcs) hint) (ne : getD labels (from + r + s .d) 0 ≡ 0 → ⊥) where
       -- the words of the label, of the arc and of what they make

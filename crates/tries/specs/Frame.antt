@@ -4,14 +4,14 @@ use mathlib.Core.Bool.{cond}
 use mathlib.Core.Path.{_≡_}
 use mathlib.Core.List.{List}
 use lib.ListN.{length, getD, take, drop}
-use lib.Dec.{T}
 use Rattle.words.specs.Pieces.{part, at, put}
 use Rattle.words.specs.Radix.{volume}
 use Rattle.request.specs.Request.{Req, width}
-use Rattle.request.specs.Shape.{buckets, cells, largest, top, ladders}
+use Rattle.request.specs.Shape.{buckets, cells, ladders}
 use Rattle.request.specs.Accepted.{Regular, Small, Fits}
-use Rattle.rounds.specs.Label.{label, sum, costs, filled}
+use Rattle.rounds.specs.Label.{label, sum, step}
 use Rattle.rounds.specs.Rounds.{span}
+use Rattle.rounds.specs.Settled.{Room, Tried, Quiet}
 use Rattle.labels.specs.Words.{winsOver, Seeks}
 use Rattle.tries.specs.declared.Frame.{Frame}
 
@@ -54,17 +54,28 @@ pub record Framed (R : Req) (s : Frame) (buffer : List ℕ) : Type 0 where
   pub counts-are : (j : ℕ) → j < R .graded → getD (s .counts) j 0 ≡ buckets R j
   pub ladders-are : part buffer 0 (length (ladders R)) ≡ ladders R
 
--- one arc more than any filled label of the block stays under the ladder tops
-unfoldable pub Room : Req → List ℕ → Type 0
-Room R F = (c : ℕ) → c < cells R → T (filled R (at (width R) F c)) → (j : ℕ) → getD (costs R (at (width R) F c)) j 0 + largest R j ≤ top R j
-
--- the tail's block ends at or before the head's begins
-pub record Apart (R : Req) (labels : List ℕ) (from to : ℕ) : Type 0 where
+-- the tail's block ends at or before the head's begins, leaves room for one arc more, and what it kept was tried by arc a already
+pub record Apart (R : Req) (labels : List ℕ) (from to a : ℕ) : Type 0 where
   pub below : from + span R ≤ to
   pub inside : to + span R ≤ length labels
   pub room : Room R (part labels from (span R))
+  pub tried : Tried R (part labels from (span R)) a (part labels to (span R))
+
+-- outside the cells from `low` up to `high` every label of block F is empty or kept
+pub record Ranged (R : Req) (F : List ℕ) (low high : ℕ) : Type 0 where
+  pub ordered : low ≤ high
+  pub inside : high ≤ cells R
+  pub before : (c : ℕ) → c < low → Quiet (step R (at (width R) F c))
+  pub after : (c : ℕ) → high ≤ c → c < cells R → Quiet (step R (at (width R) F c))
 
 -- a place in each ladder
 pub record Hinted (R : Req) (places : List ℕ) : Type 0 where
   pub two : length places ≡ 2
   pub inside : (j : ℕ) → j < R .graded → getD places j 0 < buckets R j
+
+-- from cell c up to r all labels of block F, of d criteria, are empty or kept; r is `high`, or a filled cell below it
+pub record Fresh (d : ℕ) (F : List ℕ) (c r high : ℕ) : Type 0 where
+  pub reached : c ≤ r
+  pub inside : r ≤ high
+  pub between : (k : ℕ) → c ≤ k → k < r → Quiet (getD (at (d + 2) F k) d 0)
+  pub full : r < high → getD (at (d + 2) F r) d 0 ≡ 0 → ⊥

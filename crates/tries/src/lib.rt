@@ -3,18 +3,18 @@ use labels::Found;
 use labels::add_costs;
 use labels::find_cell;
 use labels::place;
+use labels::places_of;
 use request::Request;
 ghost use mathlib.Core.Path.{_≡_};
 ghost use Prim.Native.Nat.{ℕ, _+_, _-_, _*_, _≤_, _<_};
 ghost use lib.ListN.{length, getD};
-ghost use Rattle.words.specs.Pieces.{part, at, write};
-ghost use Rattle.request.specs.Request.{asked, width, arcCount};
-ghost use Rattle.request.specs.Shape.{cells};
+ghost use Rattle.words.specs.Pieces.{part, write};
+ghost use Rattle.request.specs.Request.{asked, arcCount};
 ghost use Rattle.labels.specs.Words.{Seeks, Found-at};
-ghost use Rattle.rounds.specs.Label.{filled};
-ghost use Rattle.rounds.specs.Rounds.{span, bit, filledIn, tryCell, tryArc};
+ghost use Rattle.rounds.specs.Rounds.{span, tryArc};
+ghost use Rattle.rounds.specs.Settled.{quiet};
 ghost use Rattle.words.specs.Radix.{volume};
-ghost use Rattle.tries.specs.Frame.{offered, extended, Sized, Extends, Framed, Apart, Hinted};
+ghost use Rattle.tries.specs.Frame.{offered, extended, Sized, Extends, Framed, Apart, Ranged, Fresh};
 
 // The sizes that the loops go by, worked out once: the request, its criteria, the words of a label, the cells of a node,
 // the words of a node's block, the bucket counts.
@@ -25,12 +25,6 @@ pub struct Frame {
     pub cells: usize,
     pub span: usize,
     pub counts: [usize; 2],
-}
-
-// What goes along an arc from try to try: the places last found, from which the next are looked for, and the tries so far.
-struct Going {
-    places: [usize; 2],
-    tries: u64,
 }
 
 // Where a cell's words begin in a block.
@@ -105,41 +99,36 @@ fn extend(
     offer_found(labels, &cand[..w], ladders, s, to, hint)
 }
 
-// Cell c of the tail's block, at `from`, tried by arc a into the head's block, at `to`.
-fn try_cell(
-    labels: &mut [u32],
-    arcs: &[u32],
-    ladders: &[u32],
-    s: Frame,
-    from: usize,
-    to: usize,
-    a: usize,
-    c: usize,
-    going: Going,
-) -> Going
-    requires { ⌜ Framed (asked (s .request) (now arcs)) s (now ladders) ⌝ }
-    requires { ⌜ Apart (asked (s .request) (now arcs)) (now labels) from to ⌝ }
-    requires { ⌜ (a < arcCount (asked (s .request) (now arcs))) × (c < cells (asked (s .request) (now arcs))) ⌝ }
-    requires { ⌜ Hinted (asked (s .request) (now arcs)) (going .places) ⌝ }
-    requires { ⌜ going .tries ≤ c ⌝ }
-    ensures { λ r. ⌜ now (labels .exit) ≡ write (now (labels .entry)) to (tryCell (asked (s .request) (now (arcs .entry))) (part (now (labels .entry)) from (span (asked (s .request) (now (arcs .entry))))) a c (part (now (labels .entry)) to (span (asked (s .request) (now (arcs .entry)))))) ⌝ }
-    ensures { λ r. ⌜ (Hinted (asked (s .request) (now (arcs .entry))) (r .places)) × (r .tries ≡ going .tries + bit (filled (asked (s .request) (now (arcs .entry))) (at (width (asked (s .request) (now (arcs .entry)))) (part (now (labels .entry)) from (span (asked (s .request) (now (arcs .entry))))) c))) ⌝ }
+// Whether a step word says empty or kept.
+fn is_quiet(step: u32) -> bool
+    ensures { λ r. ⌜ r ≡ quiet step ⌝ }
 {
-    let at = from + label_at(s, c);
-    let step_at = at + s.d;
-    if labels[step_at] == 0 {
-        return going;
+    if step == 0 {
+        return true;
     }
-    let hint = going.places;
-    let found = extend(labels, arcs, ladders, s, at, to, a, c, hint);
-    let places = found.places;
-    Going {
-        places,
-        tries: going.tries + 1,
-    }
+    step == 2
 }
 
-// Every filled cell of the tail's block, at `from`, tried by arc a into the head's block, at `to`: how many tries.
+// The first cell from c on, below `high`, of a block of labels of d criteria that is neither empty nor kept; `high` where there is none.
+fn next_fresh(block: &[u32], d: usize, c: usize, high: usize) -> usize
+    requires { ⌜ (d ≤ 3) × (c ≤ high) × (high ≤ 1048576) × (high * (d + 2) ≤ length (now block)) ⌝ }
+    ensures { λ r. ⌜ Fresh d (now (block .entry)) c r high ⌝ }
+{
+    let w = d + 2;
+    let mut at = c * w + d;
+    let mut i = c;
+    while i < high {
+        if !is_quiet(block[at]) {
+            return i;
+        }
+        at += w;
+        i += 1;
+    }
+    i
+}
+
+// Every filled cell of the tail's block, at `from`, tried by arc a into the head's block, at `to`. Only the cells from `low`
+// up to `high` that are neither empty nor kept are extended: there is nothing new in the others.
 pub fn try_arc(
     labels: &mut [u32],
     arcs: &[u32],
@@ -148,20 +137,27 @@ pub fn try_arc(
     from: usize,
     to: usize,
     a: usize,
-) -> u64
+    low: usize,
+    high: usize,
+)
     requires { ⌜ Framed (asked (s .request) (now arcs)) s (now ladders) ⌝ }
-    requires { ⌜ Apart (asked (s .request) (now arcs)) (now labels) from to ⌝ }
+    requires { ⌜ Apart (asked (s .request) (now arcs)) (now labels) from to a ⌝ }
     requires { ⌜ a < arcCount (asked (s .request) (now arcs)) ⌝ }
+    requires { ⌜ Ranged (asked (s .request) (now arcs)) (part (now labels) from (span (asked (s .request) (now arcs)))) low high ⌝ }
     ensures { λ _. ⌜ now (labels .exit) ≡ write (now (labels .entry)) to (tryArc (asked (s .request) (now (arcs .entry))) (part (now (labels .entry)) from (span (asked (s .request) (now (arcs .entry))))) a (part (now (labels .entry)) to (span (asked (s .request) (now (arcs .entry)))))) ⌝ }
-    ensures { λ r. ⌜ r ≡ filledIn (asked (s .request) (now (arcs .entry))) (part (now (labels .entry)) from (span (asked (s .request) (now (arcs .entry))))) ⌝ }
 {
-    let cells = s.cells;
-    let places = [0usize; 2];
-    let mut going = Going { places, tries: 0 };
-    let mut c = 0;
-    while c < cells {
-        going = try_cell(labels, arcs, ladders, s, from, to, a, c, going);
-        c += 1;
+    let d = s.d;
+    let end = from + s.span;
+    let mut c = next_fresh(&labels[from..end], d, low, high);
+    if high <= c {
+        return;
     }
-    going.tries
+    let counts = s.counts;
+    let mut last = places_of(c, counts, d - 1);
+    while c < high {
+        let at = from + label_at(s, c);
+        let hint = last.places;
+        last = extend(labels, arcs, ladders, s, at, to, a, c, hint);
+        c = next_fresh(&labels[from..end], d, c + 1, high);
+    }
 }

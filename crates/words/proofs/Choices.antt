@@ -33,3 +33,12 @@ true-is e = subst T (sym e) tt
 
 pub false-is : {b : Bool} → b ≡ false → T (not b)
 false-is e = subst (λ (t : Bool). T (not t)) (sym e) tt
+
+-- a test turned round
+pub not-true : (b : Bool) → not b ≡ true → b ≡ false
+not-true true e = sym e
+not-true false e = refl
+
+pub not-false : (b : Bool) → not b ≡ false → b ≡ true
+not-false true e = refl
+not-false false e = sym e

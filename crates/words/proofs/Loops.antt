@@ -58,6 +58,14 @@ unfolding upTo
 upTo-ext f g s zero h = refl
 upTo-ext f g s (suc n) h = ap (f n) (upTo-ext f g s n (λ j t l. h j t (le-step l))) ∙ h n (upTo g s n) (le-refl (suc n))
 
+-- steps m to n - 1 that change nothing
+pub upTo-idle {ℓ} : {S : Type ℓ} (f : ℕ → S → S) (s : S) (m n : ℕ) → m ≤ n → ((k : ℕ) → m ≤ k → k < n → f k (upTo f s m) ≡ upTo f s m) → upTo f s n ≡ upTo f s m
+upTo-idle f s m zero h idle = ap (upTo f s) (omega arith)
+upTo-idle f s m (suc n) h idle =
+    ⊎-elim (λ (e : m ≡ suc n). ap (upTo f s) (sym e))
+    (λ (l : m < suc n). upTo-suc f s n ∙ ap (f n) (upTo-idle f s m n (le-of-suc-le-suc l) (λ k a b. idle k a (le-step b))) ∙ idle n (le-of-suc-le-suc l) (le-refl (suc n)))
+    (eq-or-lt-of-le h)
+
 -- ---- sums
 
 pub total-zero : (f : ℕ → ℕ) → total f 0 ≡ 0

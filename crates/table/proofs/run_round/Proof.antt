@@ -1,109 +1,94 @@
 -- `run_round`: keeping, then passing the arcs, is the round. Assumes nothing.
-use mathlib.Core.Path.{_≡_, ap, ap₂, _∙_}
-use Prim.Native.Nat.{ℕ, _+_, _*_}
-use native.Mathlib.Nat.{mul-assoc, mul-le-mul}
-use mathlib.Core.List.{List}
-use Rattle.words.specs.Pieces.{part, at, write, join}
-use Rattle.request.specs.Request.{asked, width}
-use Rattle.request.specs.Shape.{cells}
-use Rattle.rounds.specs.Rounds.{keepAll}
-use Rattle.tries.specs.declared.Frame.{Frame}
-use Rattle.tries.specs.Frame.{Framed}
-use Rattle.labels.specs.Words.{keepWords}
-use Rattle.table.proofs.Keeping.{layer-is}
-use Rattle.table.proofs.Passing.{layerWords, layered-later}
-use Rattle.table.proofs.Layers.{round-law, round-tries}
+use mathlib.Core.Path.{_∙_}
+use Rattle.request.specs.Request.{asked}
+use Rattle.table.proofs.Keeping.{layer-words, kept-layer, layer-notes}
+use Rattle.table.proofs.Passing.{layered-later}
+use Rattle.table.proofs.Layers.{kept-here, notes-here, round-law, round-tries}
 use borrow.Author.Needs.{needs}
 use native.Mathlib.Omega.{arith}
 use Rattle.table.proofs.run_round.Statement.{statement}
 use Rattle.table.proofs.run_round.Tie as tie
 
-module _ (s : Frame) (arcs ladders : List ℕ) (f : Framed (asked (s .request) arcs) s ladders) where
-  -- N × C labels are a layer's words
-  count-words : s .request .nodes * s .cells * (s .d + 2) ≡ layerWords (asked (s .request) arcs)
-  count-words =
-      ap₂ (λ (x y : ℕ). s .request .nodes * x * (y + 2)) (f .cells-is) (f .d-is)
-      ∙ mul-assoc (s .request .nodes) (cells (asked (s .request) arcs)) (width (asked (s .request) arcs))
-
-  -- the layer after `keep_layer`
-  kept-layer : (xs : List ℕ) (prev base : ℕ) (ls : List ℕ) → ls ≡ write xs base (join (λ j. keepWords (s .d) (at (s .d + 2) (part xs prev (s .request .nodes * s .cells * (s .d + 2))) j)) (s .request .nodes * s .cells))
-      → ls ≡ write xs base (keepAll (asked (s .request) arcs) (part xs prev (layerWords (asked (s .request) arcs))))
-  kept-layer xs prev base ls e =
-      e
-      ∙ ap (λ (n : ℕ). write xs base (join (λ j. keepWords (s .d) (at (s .d + 2) (part xs prev n) j)) (s .request .nodes * s .cells))) count-words
-      ∙ ap₂ (λ (d c : ℕ). write xs base (join (λ j. keepWords d (at (d + 2) (part xs prev (layerWords (asked (s .request) arcs))) j)) (s .request .nodes * c))) (f .d-is) (f .cells-is)
-      ∙ ap (write xs base) (layer-is (asked (s .request) arcs) (part xs prev (layerWords (asked (s .request) arcs))))
-
 cast-n : tie.Need-cast-n
-cast-n c =
-    let s = c .before .before .before .before .args in
-    let p = c .before .before .before .before .pre in
-    let f = p .0 in
-    let R = asked (s .s .request) (s .arcs .now) in
-    let q = count-words (s .s) (s .arcs .now) (s .ladders .now) f in
-    let b = p .1 .below in
-    let i = p .1 .inside in
-    let w = f .sized .few in
-    let n = f .bounded .nodes-few in
-    omega arith
+cast-n c = search needs
 
-mul-keep-layer : tie.Need-mul-keep-layer
-mul-keep-layer c =
-    let s = c .before .before .before .before .before .before .args in
-    let p = c .before .before .before .before .before .before .pre in
-    let f = p .0 in
-    let R = asked (s .s .request) (s .arcs .now) in
-    let q = count-words (s .s) (s .arcs .now) (s .ladders .now) f in
-    let b = p .1 .below in
-    let i = p .1 .inside in
-    let w = f .sized .few in
-    let n = f .bounded .nodes-few in
-    let m = f .sized .cells-small in
-    let h = mul-le-mul n m in
-    omega arith
+slice-aggregate-keep-layer : tie.Need-slice-aggregate-keep-layer
+slice-aggregate-keep-layer c = search needs
+
+slice-aggregate-keep-layer-2 : tie.Need-slice-aggregate-keep-layer-2
+slice-aggregate-keep-layer-2 c = search needs
+
+slice-aggregate-keep-layer-3 : tie.Need-slice-aggregate-keep-layer-3
+slice-aggregate-keep-layer-3 c = search needs
 
 keep-layer-requires : tie.Need-keep-layer-requires
 keep-layer-requires c κs =
-    let s = c .before .before .before .before .before .before .args in
-    let p = c .before .before .before .before .before .before .pre in
+    let s = c .before .before .before .before .before .before .before .before .args in
+    let p = c .before .before .before .before .before .before .before .before .pre in
     let f = p .0 in
-    let R = asked (s .s .request) (s .arcs .now) in
-    let q = count-words (s .s) (s .arcs .now) (s .ladders .now) f in
-    let b = p .1 .below in
-    let i = p .1 .inside in
-    let w = f .sized .few in
-    omega arith
+    let w = layer-words (s .s) (s .arcs .now) (s .ladders .now) f in
+    record {
+      below = omega (arith, p .1);
+      inside = omega (arith, p .1);
+      few = f .sized .few;
+      small = f .sized .cells-small;
+      places = (f .bounded .nodes-few, f .bounded .nodes-few, f .bounded .nodes-few);
+    }
+
+slice-aggregate-try-arcs : tie.Need-slice-aggregate-try-arcs
+slice-aggregate-try-arcs c = search needs
+
+slice-aggregate-try-arcs-2 : tie.Need-slice-aggregate-try-arcs-2
+slice-aggregate-try-arcs-2 c = search needs
+
+slice-aggregate-try-arcs-3 : tie.Need-slice-aggregate-try-arcs-3
+slice-aggregate-try-arcs-3 c = search needs
 
 try-arcs-requires : tie.Need-try-arcs-requires
 try-arcs-requires c κs =
-    let s = c .before .before .before .before .before .before .before .before .before .before .args in
-    let p = c .before .before .before .before .before .before .before .before .before .before .pre in
+    let s = c .before .before .before .before .before .before .before .before .before .before .before .before .before .before .before .before .before .before .args in
+    let p = c .before .before .before .before .before .before .before .before .before .before .before .before .before .before .before .before .before .before .pre in
     let f = p .0 in
-    let R = asked (s .s .request) (s .arcs .now) in
-    let q = count-words (s .s) (s .arcs .now) (s .ladders .now) f in
-    let b = p .1 .below in
-    let i = p .1 .inside in
-    let w = f .sized .few in
-    (f, layered-later R (s .labels .now) _ _ (s .prev) (s .base) (p .1) (kept-layer (s .s) (s .arcs .now) (s .ladders .now) f (s .labels .now) (s .prev) (s .base) (c .before .before .before .keep-layer .last .0) (c .before .before .before .keep-layer .ensures)))
+    let x = c .before .before .before .before .before .before .before .before .before .keep-layer in
+    let k = kept-layer (s .s) (s .arcs .now) (s .ladders .now) f (s .labels .now) (s .prev) (s .base) (x .last .0) (x .ensures .0) in
+    let n = layer-notes (s .s) (s .arcs .now) (s .ladders .now) f (s .labels .now) (s .prev) (s .base) _ _ _ (omega (arith, f .bounded .nodes-few, x .kept .1 .0)) (omega (arith, f .bounded .nodes-few, x .kept .1 .1 .0)) (omega (arith, f .bounded .nodes-few, x .kept .1 .1 .1 .0)) (x .ensures .1) in (
+      f,
+      (
+        layered-later (asked (s .s .request) (s .arcs .now)) (s .labels .now) (x .last .0) _ (s .prev) (s .base) (p .1) k,
+        (
+          kept-here (asked (s .s .request) (s .arcs .now)) (f .regular) (s .labels .now) (s .prev) (s .base) (p .1) (x .last .0) k,
+          notes-here (asked (s .s .request) (s .arcs .now)) (f .regular) (s .labels .now) (s .prev) (s .base) (p .1) (x .last .0) k _ _ _ n,
+        ),
+      ),
+    )
 
 same-length : tie.Need-same-length
 same-length c = search needs
 
 returns : tie.Need-returns
 returns c =
-    let s = c .before .before .before .before .before .before .before .before .before .before .before .before .before .args in
-    let p = c .before .before .before .before .before .before .before .before .before .before .before .before .before .pre in
+    let s = c .before .before .before .before .before .before .before .before .before .before .before .before .before .before .before .before .before .before .before .before .before .args in
+    let p = c .before .before .before .before .before .before .before .before .before .before .before .before .before .before .before .before .before .before .before .before .before .pre in
     let f = p .0 in
-    let R = asked (s .s .request) (s .arcs .now) in
-    let q = count-words (s .s) (s .arcs .now) (s .ladders .now) f in
-    let b = p .1 .below in
-    let i = p .1 .inside in
-    let w = f .sized .few in
-    let k = kept-layer (s .s) (s .arcs .now) (s .ladders .now) f (s .labels .now) (s .prev) (s .base) (c .before .before .before .before .before .before .keep-layer .last .0) (c .before .before .before .before .before .before .keep-layer .ensures) in
-    let t = c .before .before .try-arcs in
-    (round-law R (f .regular) (s .labels .now) (s .prev) (s .base) (p .1) (c .before .before .before .before .before .before .keep-layer .last .0) (t .last .0) k (t .ensures .0), t .ensures .1 ∙ round-tries R (f .regular) (s .labels .now) (s .prev) (s .base) (p .1) (c .before .before .before .before .before .before .keep-layer .last .0) k)
+    let x = c .before .before .before .before .before .before .before .before .before .before .before .before .keep-layer in
+    let k = kept-layer (s .s) (s .arcs .now) (s .ladders .now) f (s .labels .now) (s .prev) (s .base) (x .last .0) (x .ensures .0) in
+    let t = c .before .before .try-arcs in (
+      round-law (asked (s .s .request) (s .arcs .now)) (f .regular) (s .labels .now) (s .prev) (s .base) (p .1) (x .last .0) k (t .last .0) (t .ensures .0),
+      t .ensures .1 ∙ round-tries (asked (s .s .request) (s .arcs .now)) (f .regular) (s .labels .now) (s .prev) (s .base) (p .1) (x .last .0) k,
+    )
 
 pub run-round-spec : {M : Type 1} → statement M
 run-round-spec =
     tie.close
-    (tie.spec cast-n mul-keep-layer keep-layer-requires try-arcs-requires same-length returns)
+    (tie.spec
+    cast-n
+    slice-aggregate-keep-layer
+    slice-aggregate-keep-layer-2
+    slice-aggregate-keep-layer-3
+    keep-layer-requires
+    slice-aggregate-try-arcs
+    slice-aggregate-try-arcs-2
+    slice-aggregate-try-arcs-3
+    try-arcs-requires
+    same-length
+    returns)

@@ -11,6 +11,7 @@ use Rattle.rounds.proofs.Tries.{roundTries-le, tries-le}
 use Rattle.tries.specs.declared.Frame.{Frame}
 use Rattle.tries.specs.Frame.{Framed}
 use Rattle.tries.proofs.Frames.{span-is}
+use Rattle.rounds.proofs.Ties.{lower-stays}
 use Rattle.table.specs.Build.{Layered}
 use Rattle.table.proofs.Passing.{layerWords}
 use Rattle.table.proofs.Layers.{Drawn, first-drawn, drawn-length, ends, next-layered, next-drawn, all-drawn}
@@ -88,7 +89,7 @@ run-round-requires c κs =
     let f = p .0 in
     let R = asked (s .s .request) (s .arcs .now) in
     let z = layer-size (s .s) (s .arcs .now) (s .ladders .now) f in
-    (f, subst (λ (n : ℕ). Layered R (c .before .before .loop .labels) (c .before .before .loop .base) (c .before .before .loop .base + n)) (sym z) (next-layered R (f .regular) (s .labels .now) (c .before .before .loop .labels) (c .before .before .loop .base) (c .before .before .loop .tries) (c .before .before .loop .i) (c .before .before .loop .inv) (p .1 .0) (c .before .loop-test .taken)))
+    (f, subst (λ (n : ℕ). Layered R (c .before .before .loop .labels) (c .before .before .loop .base) (c .before .before .loop .base + n)) (sym z) (next-layered R (f .regular) (s .labels .now) (c .before .before .loop .labels) (c .before .before .loop .base) (c .before .before .loop .tries) (c .before .before .loop .i) (c .before .before .loop .inv) (p .1 .0) (c .before .loop-test .taken) (lower-stays (s .s .request .criteria))))
 
 add-tries : tie.Need-add-tries Inv-loop μ-loop
 add-tries c =

@@ -1,73 +1,203 @@
--- `try_arc`. The loop's invariant: the cells before c are tried (`Along`). Assumes nothing.
-use mathlib.Core.Path.{_≡_}
-use Prim.Native.Nat.{_-_}
+-- `try_arc`. The loop's invariant: the cells before c are tried (`Along`), there is a place to look from, and c is filled. Assumes nothing.
+use mathlib.Core.Path.{_≡_, refl, _∙_}
+use Prim.Native.Nat.{ℕ, _+_, _-_, _*_, _<_}
+use native.Mathlib.Nat.{le-refl}
+use lib.ListN.{getD}
+use Rattle.words.proofs.Writes.{length-part}
 use Rattle.request.specs.Request.{asked}
-use Rattle.tries.proofs.Arcs.{Along, none-yet, still-apart, tries-few, same-length as along-length, one-more, all-words, all-tries}
+use Rattle.request.specs.Shape.{cells}
+use Rattle.rounds.proofs.Ties.{lower-stays}
+use Rattle.tries.specs.Frame.{Hinted}
+use Rattle.tries.proofs.Trying.{can-extend, filled-hints, filled-try}
+use Rattle.tries.proofs.Arcs.{reach, block-room, quiet-between, full-found, counts-some, places-hint, Along, low-first, still-apart, still-ranged, same-length as along-length, passed-over, one-more, all-words}
 use borrow.Author.Needs.{needs}
 use native.Mathlib.Omega.{arith}
 use Rattle.tries.proofs.try_arc.Statement.{statement}
 use Rattle.tries.proofs.try_arc.Tie as tie
 
 abbrev Inv-loop : tie.InvT-loop
-Inv-loop labels₀ arcs ladders s from to a cells going₀ c₀ labels going c = Along (asked (s .request) arcs) labels₀ from to a labels (going .places) (going .tries) c
+Inv-loop labels₀ arcs ladders s from to a low high d end c₀ last₀ labels c last =
+    Along (asked (s .request) arcs) labels₀ from to a low high labels c
+    × Hinted (asked (s .request) arcs) (last .places)
+    × ((o : ℕ) → c < high → o ≡ c * s .w → getD labels (from + o + s .d) 0 ≡ 0 → ⊥)
 
 abbrev μ-loop : tie.MeasureT-loop
-μ-loop labels₀ arcs ladders s from to a cells going₀ c₀ labels going c = cells - c
+μ-loop labels₀ arcs ladders s from to a low high d end c₀ last₀ labels c last = high - c
 
-loop-holds : tie.Need-loop-holds Inv-loop μ-loop
-loop-holds c =
-    let a = c .before .before .before .args in
-    let p = c .before .before .before .pre in
-    let R = asked (a .s .request) (a .arcs .now) in
-    let k = p .0 .cells-is in
-    none-yet R (a .labels .now) (a .from) (a .to) (a .a)
+add-end : tie.Need-add-end Inv-loop μ-loop
+add-end c =
+    let a = c .before .before .before .before .args in
+    let p = c .before .before .before .before .pre in
+    omega (arith, reach (a .s) (a .arcs .now) (a .ladders .now) (a .labels .now) (a .from) (a .to) (a .a) (a .low) (a .high) (p .0) (p .1 .0) (p .1 .1 .1) (a .high) (le-refl (a .high)))
 
-try-cell-requires : tie.Need-try-cell-requires Inv-loop μ-loop
-try-cell-requires c κs =
+mul-next-fresh : tie.Need-mul-next-fresh Inv-loop μ-loop
+mul-next-fresh c =
+    let a = c .before .before .before .before .args in
+    let p = c .before .before .before .before .pre in
+    omega (arith, reach (a .s) (a .arcs .now) (a .ladders .now) (a .labels .now) (a .from) (a .to) (a .a) (a .low) (a .high) (p .0) (p .1 .0) (p .1 .1 .1) (a .high) (le-refl (a .high)))
+
+sub-next-fresh : tie.Need-sub-next-fresh Inv-loop μ-loop
+sub-next-fresh c =
+    let a = c .before .before .before .before .args in
+    let p = c .before .before .before .before .pre in
+    omega (arith, reach (a .s) (a .arcs .now) (a .ladders .now) (a .labels .now) (a .from) (a .to) (a .a) (a .low) (a .high) (p .0) (p .1 .0) (p .1 .1 .1) (a .high) (le-refl (a .high)))
+
+part-next-fresh-start : tie.Need-part-next-fresh-start Inv-loop μ-loop
+part-next-fresh-start c = search needs
+
+part-next-fresh-end : tie.Need-part-next-fresh-end Inv-loop μ-loop
+part-next-fresh-end c =
+    let a = c .before .before .before .before .before .args in
+    let p = c .before .before .before .before .before .pre in
+    omega (arith, reach (a .s) (a .arcs .now) (a .ladders .now) (a .labels .now) (a .from) (a .to) (a .a) (a .low) (a .high) (p .0) (p .1 .0) (p .1 .1 .1) (a .high) (le-refl (a .high)))
+
+next-fresh-requires : tie.Need-next-fresh-requires Inv-loop μ-loop
+next-fresh-requires c κs =
     let a = c .before .before .before .before .before .before .args in
     let p = c .before .before .before .before .before .before .pre in
-    let R = asked (a .s .request) (a .arcs .now) in
-    let k = p .0 .cells-is in
-    (p .0, (still-apart R (a .labels .now) (a .from) (a .to) (a .a) (p .1 .0) (c .before .before .loop .labels) (c .before .before .loop .going .places) (c .before .before .loop .going .tries) (c .before .before .loop .c) (c .before .before .loop .inv), ((p .1 .1, omega arith), (c .before .before .loop .inv .hints, tries-few R (a .labels .now) (a .from) (a .to) (a .a) (p .1 .0) (c .before .before .loop .labels) (c .before .before .loop .going .places) (c .before .before .loop .going .tries) (c .before .before .loop .c) (c .before .before .loop .inv)))))
-
-add-c : tie.Need-add-c Inv-loop μ-loop
-add-c c = search needs
-
-loop-less : tie.Need-loop-less Inv-loop μ-loop
-loop-less c =
-    let a = c .before .before .before .before .before .before .before .before .before .args in
-    let p = c .before .before .before .before .before .before .before .before .before .pre in
-    let R = asked (a .s .request) (a .arcs .now) in
-    let k = p .0 .cells-is in
-    omega arith
-
-loop-again : tie.Need-loop-again Inv-loop μ-loop
-loop-again c =
-    let a = c .before .before .before .before .before .before .before .before .before .args in
-    let p = c .before .before .before .before .before .before .before .before .before .pre in
-    let R = asked (a .s .request) (a .arcs .now) in
-    let k = p .0 .cells-is in
-    let x = c .before .before .try-cell in
-    one-more R (a .labels .now) (a .from) (a .to) (a .a) (p .1 .0) (c .before .before .before .before .before .loop .labels) (c .before .before .before .before .before .loop .going .places) (c .before .before .before .before .before .loop .going .tries) (c .before .before .before .before .before .loop .c) (c .before .before .before .before .before .loop .inv) (omega arith) (x .last .0) (x .result .places) (x .result .tries) (x .ensures .0) (x .ensures .1 .0) (x .ensures .1 .1)
+    let h = reach (a .s) (a .arcs .now) (a .ladders .now) (a .labels .now) (a .from) (a .to) (a .a) (a .low) (a .high) (p .0) (p .1 .0) (p .1 .1 .1) (a .high) (le-refl (a .high)) in
+    (h .wide, p .1 .1 .1 .ordered, h .few, block-room (a .s) (a .arcs .now) (a .ladders .now) (a .labels .now) (a .from) (a .to) (a .a) (a .low) (a .high) (p .0) (p .1 .0) (p .1 .1 .1))
 
 same-length : tie.Need-same-length Inv-loop μ-loop
 same-length c =
-    let a = c .before .before .before .before .before .args in
-    let p = c .before .before .before .before .before .pre in
-    let R = asked (a .s .request) (a .arcs .now) in
-    let k = p .0 .cells-is in
-    along-length R (a .labels .now) (a .from) (a .to) (a .a) (p .1 .0) (c .before .loop .labels) (c .before .loop .going .places) (c .before .loop .going .tries) (c .before .loop .c) (c .before .loop .inv)
+    refl
 
 returns : tie.Need-returns Inv-loop μ-loop
 returns c =
-    let a = c .before .before .before .before .before .args in
-    let p = c .before .before .before .before .before .pre in
-    let R = asked (a .s .request) (a .arcs .now) in
-    let k = p .0 .cells-is in
+    let a = c .before .before .before .before .before .before .before .before .args in
+    let p = c .before .before .before .before .before .before .before .before .pre in
+    let x = c .before .next-fresh in
+    let z = x .ensures in
+    all-words (asked (a .s .request) (a .arcs .now)) (p .0 .regular) (lower-stays (a .s .request .criteria)) (a .labels .now) (a .from) (a .to) (a .a) (a .low) (a .high) (p .1 .0) (p .1 .1 .0) (p .1 .1 .1) (a .labels .now) (x .result)
+    (passed-over (asked (a .s .request) (a .arcs .now)) (p .0 .regular) (lower-stays (a .s .request .criteria)) (a .labels .now) (a .from) (a .to) (a .a) (a .low) (a .high) (p .1 .0) (p .1 .1 .0) (p .1 .1 .1) (a .labels .now) (a .low) (low-first (asked (a .s .request) (a .arcs .now)) (p .0 .regular) (lower-stays (a .s .request .criteria)) (a .labels .now) (a .from) (a .to) (a .a) (a .low) (a .high) (p .1 .0) (p .1 .1 .0) (p .1 .1 .1)) (x .result) (z .reached) (z .inside) (quiet-between (a .s) (a .arcs .now) (a .ladders .now) (a .labels .now) (a .from) (a .to) (a .a) (a .low) (a .high) (p .0) (p .1 .0) (p .1 .1 .1) (a .low) (x .result) (z .inside) z))
+    (omega (arith, z .inside, c .if1 .taken))
+
+sub-places-of : tie.Need-sub-places-of Inv-loop μ-loop
+sub-places-of c =
+    let a = c .before .before .before .before .before .before .before .before .before .args in
+    let p = c .before .before .before .before .before .before .before .before .before .pre in
+    omega (arith, p .0 .sized .some)
+
+places-of-requires : tie.Need-places-of-requires Inv-loop μ-loop
+places-of-requires c κs =
+    let a = c .before .before .before .before .before .before .before .before .before .args in
+    let p = c .before .before .before .before .before .before .before .before .before .pre in
+    (omega (arith, p .0 .sized .few), counts-some (a .s) (a .arcs .now) (a .ladders .now) (a .labels .now) (a .from) (a .to) (a .a) (a .low) (a .high) (p .0) (p .1 .0) (p .1 .1 .1))
+
+loop-holds : tie.Need-loop-holds Inv-loop μ-loop
+loop-holds c =
+    let a = c .before .before .before .before .before .before .before .before .before .before .args in
+    let p = c .before .before .before .before .before .before .before .before .before .before .pre in
+    let x = c .before .before .before .next-fresh in
+    let z = x .ensures in
+    let y = c .places-of in (
+      passed-over (asked (a .s .request) (a .arcs .now)) (p .0 .regular) (lower-stays (a .s .request .criteria)) (a .labels .now) (a .from) (a .to) (a .a) (a .low) (a .high) (p .1 .0) (p .1 .1 .0) (p .1 .1 .1) (a .labels .now) (a .low) (low-first (asked (a .s .request) (a .arcs .now)) (p .0 .regular) (lower-stays (a .s .request .criteria)) (a .labels .now) (a .from) (a .to) (a .a) (a .low) (a .high) (p .1 .0) (p .1 .1 .0) (p .1 .1 .1)) (x .result) (z .reached) (z .inside) (quiet-between (a .s) (a .arcs .now) (a .ladders .now) (a .labels .now) (a .from) (a .to) (a .a) (a .low) (a .high) (p .0) (p .1 .0) (p .1 .1 .1) (a .low) (x .result) (z .inside) z),
+      places-hint (a .s) (a .arcs .now) (a .ladders .now) (a .labels .now) (a .from) (a .to) (a .a) (a .low) (a .high) (p .0) (p .1 .0) (p .1 .1 .1) (y .result .places) (y .ensures .0) (y .ensures .1),
+      λ o h e. full-found (a .s) (a .arcs .now) (a .ladders .now) (a .labels .now) (a .from) (a .to) (a .a) (a .low) (a .high) (p .0) (p .1 .0) (p .1 .1 .1) (a .low) (x .result) z h o e,
+    )
+
+label-at-requires : tie.Need-label-at-requires Inv-loop μ-loop
+label-at-requires c κs =
+    let a = c .before .before .before .before .before .before .before .before .before .before .before .before .args in
+    let p = c .before .before .before .before .before .before .before .before .before .before .before .before .pre in
     let l = c .before .loop in
-    let i = l .inv .inside in
-    let e : l .c ≡ Rattle.request.specs.Shape.cells R = omega arith in
-    (all-words R (a .labels .now) (a .from) (a .to) (a .a) (l .labels) (l .going .places) (l .going .tries) (l .c) (l .inv) e, all-tries R (a .labels .now) (a .from) (a .to) (a .a) (l .labels) (l .going .places) (l .going .tries) (l .c) (l .inv) e)
+    (p .0 .sized, omega (arith, p .1 .1 .1 .inside, p .0 .cells-is, c .loop-test .taken))
+
+add-at : tie.Need-add-at Inv-loop μ-loop
+add-at c =
+    let a = c .before .before .before .before .before .before .before .before .before .before .before .before .before .args in
+    let p = c .before .before .before .before .before .before .before .before .before .before .before .before .before .pre in
+    let l = c .before .before .loop in
+    omega (arith, reach (a .s) (a .arcs .now) (a .ladders .now) (a .labels .now) (a .from) (a .to) (a .a) (a .low) (a .high) (p .0) (p .1 .0) (p .1 .1 .1) (a .high) (le-refl (a .high)), c .label-at .ensures .1, p .0 .sized .words)
+
+extend-requires : tie.Need-extend-requires Inv-loop μ-loop
+extend-requires c κs =
+    let a = c .before .before .before .before .before .before .before .before .before .before .before .before .before .before .before .args in
+    let p = c .before .before .before .before .before .before .before .before .before .before .before .before .before .before .before .pre in
+    let l = c .before .before .before .before .loop in
+    let t = c .before .before .before .loop-test .taken in
+    let at = c .before .before .label-at in
+    let in-c : l .c < cells (asked (a .s .request) (a .arcs .now)) = omega (arith, p .1 .1 .1 .inside, t) in
+    (p .0 .sized, can-extend (a .s) (a .arcs .now) (a .ladders .now) (l .labels) (a .from) (a .to) (a .a) (l .c) (p .0) (still-apart (asked (a .s .request) (a .arcs .now)) (p .0 .regular) (lower-stays (a .s .request .criteria)) (a .labels .now) (a .from) (a .to) (a .a) (a .low) (a .high) (p .1 .0) (p .1 .1 .0) (p .1 .1 .1) (l .labels) (l .c) (l .inv .0)) in-c (at .result) (at .ensures .0) (p .1 .1 .0) (l .last .places) (l .inv .1) (l .inv .2 (at .result) t (at .ensures .0)))
+
+mul-next-fresh-2 : tie.Need-mul-next-fresh-2 Inv-loop μ-loop
+mul-next-fresh-2 c =
+    let a = c .before .before .before .before .before .before .before .before .before .before .before .before .before .before .before .before .before .before .args in
+    let p = c .before .before .before .before .before .before .before .before .before .before .before .before .before .before .before .before .before .before .pre in
+    let l = c .before .before .before .before .before .before .before .loop in
+    let x = c .before .before .extend in
+    omega (arith, c .before .before .before .before .before .before .before .before .before .before .before .before .before .before .before .before .before .before .good, reach (a .s) (a .arcs .now) (a .ladders .now) (a .labels .now) (a .from) (a .to) (a .a) (a .low) (a .high) (p .0) (p .1 .0) (p .1 .1 .1) (a .high) (le-refl (a .high)), along-length (asked (a .s .request) (a .arcs .now)) (p .0 .regular) (lower-stays (a .s .request .criteria)) (a .labels .now) (a .from) (a .to) (a .a) (a .low) (a .high) (p .1 .0) (p .1 .1 .0) (p .1 .1 .1) (l .labels) (l .c) (l .inv .0), x .kept .0)
+
+sub-next-fresh-2 : tie.Need-sub-next-fresh-2 Inv-loop μ-loop
+sub-next-fresh-2 c =
+    let a = c .before .before .before .before .before .before .before .before .before .before .before .before .before .before .before .before .before .before .args in
+    let p = c .before .before .before .before .before .before .before .before .before .before .before .before .before .before .before .before .before .before .pre in
+    let l = c .before .before .before .before .before .before .before .loop in
+    let x = c .before .before .extend in
+    omega (arith, reach (a .s) (a .arcs .now) (a .ladders .now) (a .labels .now) (a .from) (a .to) (a .a) (a .low) (a .high) (p .0) (p .1 .0) (p .1 .1 .1) (a .high) (le-refl (a .high)), along-length (asked (a .s .request) (a .arcs .now)) (p .0 .regular) (lower-stays (a .s .request .criteria)) (a .labels .now) (a .from) (a .to) (a .a) (a .low) (a .high) (p .1 .0) (p .1 .1 .0) (p .1 .1 .1) (l .labels) (l .c) (l .inv .0), x .kept .0)
+
+part-next-fresh-start-2 : tie.Need-part-next-fresh-start-2 Inv-loop μ-loop
+part-next-fresh-start-2 c = search needs
+
+part-next-fresh-end-2 : tie.Need-part-next-fresh-end-2 Inv-loop μ-loop
+part-next-fresh-end-2 c =
+    let a = c .before .before .before .before .before .before .before .before .before .before .before .before .before .before .before .before .before .before .before .args in
+    let p = c .before .before .before .before .before .before .before .before .before .before .before .before .before .before .before .before .before .before .before .pre in
+    let l = c .before .before .before .before .before .before .before .before .loop in
+    let x = c .before .before .before .extend in
+    omega (arith, reach (a .s) (a .arcs .now) (a .ladders .now) (a .labels .now) (a .from) (a .to) (a .a) (a .low) (a .high) (p .0) (p .1 .0) (p .1 .1 .1) (a .high) (le-refl (a .high)), along-length (asked (a .s .request) (a .arcs .now)) (p .0 .regular) (lower-stays (a .s .request .criteria)) (a .labels .now) (a .from) (a .to) (a .a) (a .low) (a .high) (p .1 .0) (p .1 .1 .0) (p .1 .1 .1) (l .labels) (l .c) (l .inv .0), x .kept .0)
+
+add-next-fresh : tie.Need-add-next-fresh Inv-loop μ-loop
+add-next-fresh c =
+    let a = c .before .before .before .before .before .before .before .before .before .before .before .before .before .before .before .before .before .before .before .before .args in
+    let p = c .before .before .before .before .before .before .before .before .before .before .before .before .before .before .before .before .before .before .before .before .pre in
+    let l = c .before .before .before .before .before .before .before .before .before .loop in
+    omega (arith, reach (a .s) (a .arcs .now) (a .ladders .now) (a .labels .now) (a .from) (a .to) (a .a) (a .low) (a .high) (p .0) (p .1 .0) (p .1 .1 .1) (l .c) (l .inv .0 .inside))
+
+next-fresh-requires-2 : tie.Need-next-fresh-requires-2 Inv-loop μ-loop
+next-fresh-requires-2 c κs =
+    let a = c .before .before .before .before .before .before .before .before .before .before .before .before .before .before .before .before .before .before .before .before .args in
+    let p = c .before .before .before .before .before .before .before .before .before .before .before .before .before .before .before .before .before .before .before .before .pre in
+    let l = c .before .before .before .before .before .before .before .before .before .loop in
+    let x = c .before .before .before .before .extend in
+    let h = reach (a .s) (a .arcs .now) (a .ladders .now) (a .labels .now) (a .from) (a .to) (a .a) (a .low) (a .high) (p .0) (p .1 .0) (p .1 .1 .1) (a .high) (le-refl (a .high)) in
+    let n = length-part (x .last .0) (a .from) (a .from + a .s .span - a .from) (omega (arith, h, along-length (asked (a .s .request) (a .arcs .now)) (p .0 .regular) (lower-stays (a .s .request .criteria)) (a .labels .now) (a .from) (a .to) (a .a) (a .low) (a .high) (p .1 .0) (p .1 .1 .0) (p .1 .1 .1) (l .labels) (l .c) (l .inv .0), x .kept .0)) in
+    (h .wide, omega (arith, c .before .before .before .before .before .before .before .before .loop-test .taken), h .few, omega (arith, h, n))
+
+loop-less : tie.Need-loop-less Inv-loop μ-loop
+loop-less c =
+    omega (arith, c .before .before .before .before .before .before .before .before .before .loop-test .taken, c .next-fresh2 .ensures)
+
+loop-again : tie.Need-loop-again Inv-loop μ-loop
+loop-again c =
+    let a = c .before .before .before .before .before .before .before .before .before .before .before .before .before .before .before .before .before .before .before .before .before .args in
+    let p = c .before .before .before .before .before .before .before .before .before .before .before .before .before .before .before .before .before .before .before .before .before .pre in
+    let l = c .before .before .before .before .before .before .before .before .before .before .loop in
+    let t = c .before .before .before .before .before .before .before .before .before .loop-test .taken in
+    let at = c .before .before .before .before .before .before .before .before .label-at in
+    let in-c : l .c < cells (asked (a .s .request) (a .arcs .now)) = omega (arith, p .1 .1 .1 .inside, t) in
+    let x = c .before .before .before .before .before .extend in
+    let g = one-more (asked (a .s .request) (a .arcs .now)) (p .0 .regular) (lower-stays (a .s .request .criteria)) (a .labels .now) (a .from) (a .to) (a .a) (a .low) (a .high) (p .1 .0) (p .1 .1 .0) (p .1 .1 .1) (l .labels) (l .c) (l .inv .0) t (x .last .0) (x .ensures .0 ∙ filled-try (a .s) (a .arcs .now) (a .ladders .now) (l .labels) (a .from) (a .to) (a .a) (l .c) (p .0) (still-apart (asked (a .s .request) (a .arcs .now)) (p .0 .regular) (lower-stays (a .s .request .criteria)) (a .labels .now) (a .from) (a .to) (a .a) (a .low) (a .high) (p .1 .0) (p .1 .1 .0) (p .1 .1 .1) (l .labels) (l .c) (l .inv .0)) in-c (at .result) (at .ensures .0) (p .1 .1 .0) (l .last .places) (l .inv .1) (l .inv .2 (at .result) t (at .ensures .0)) (x .result .cell) (x .result .places) (x .ensures .1)) in
+    let y = c .next-fresh2 in
+    let z = y .ensures in (
+      passed-over (asked (a .s .request) (a .arcs .now)) (p .0 .regular) (lower-stays (a .s .request .criteria)) (a .labels .now) (a .from) (a .to) (a .a) (a .low) (a .high) (p .1 .0) (p .1 .1 .0) (p .1 .1 .1) (x .last .0) (l .c + 1) g (y .result) (z .reached) (z .inside) (quiet-between (a .s) (a .arcs .now) (a .ladders .now) (x .last .0) (a .from) (a .to) (a .a) (a .low) (a .high) (p .0) (still-apart (asked (a .s .request) (a .arcs .now)) (p .0 .regular) (lower-stays (a .s .request .criteria)) (a .labels .now) (a .from) (a .to) (a .a) (a .low) (a .high) (p .1 .0) (p .1 .1 .0) (p .1 .1 .1) (x .last .0) (l .c + 1) g) (still-ranged (asked (a .s .request) (a .arcs .now)) (p .0 .regular) (lower-stays (a .s .request .criteria)) (a .labels .now) (a .from) (a .to) (a .a) (a .low) (a .high) (p .1 .0) (p .1 .1 .0) (p .1 .1 .1) (x .last .0) (l .c + 1) g) (l .c + 1) (y .result) (z .inside) z),
+      filled-hints (a .s) (a .arcs .now) (a .ladders .now) (l .labels) (a .from) (a .to) (a .a) (l .c) (p .0) (still-apart (asked (a .s .request) (a .arcs .now)) (p .0 .regular) (lower-stays (a .s .request .criteria)) (a .labels .now) (a .from) (a .to) (a .a) (a .low) (a .high) (p .1 .0) (p .1 .1 .0) (p .1 .1 .1) (l .labels) (l .c) (l .inv .0)) in-c (at .result) (at .ensures .0) (p .1 .1 .0) (l .last .places) (l .inv .1) (l .inv .2 (at .result) t (at .ensures .0)) (x .result .cell) (x .result .places) (x .ensures .1),
+      λ o h e. full-found (a .s) (a .arcs .now) (a .ladders .now) (x .last .0) (a .from) (a .to) (a .a) (a .low) (a .high) (p .0) (still-apart (asked (a .s .request) (a .arcs .now)) (p .0 .regular) (lower-stays (a .s .request .criteria)) (a .labels .now) (a .from) (a .to) (a .a) (a .low) (a .high) (p .1 .0) (p .1 .1 .0) (p .1 .1 .1) (x .last .0) (l .c + 1) g) (still-ranged (asked (a .s .request) (a .arcs .now)) (p .0 .regular) (lower-stays (a .s .request .criteria)) (a .labels .now) (a .from) (a .to) (a .a) (a .low) (a .high) (p .1 .0) (p .1 .1 .0) (p .1 .1 .1) (x .last .0) (l .c + 1) g) (l .c + 1) (y .result) z h o e,
+    )
+
+same-length-2 : tie.Need-same-length-2 Inv-loop μ-loop
+same-length-2 c =
+    let a = c .before .before .before .before .before .before .before .before .before .before .before .before .args in
+    let p = c .before .before .before .before .before .before .before .before .before .before .before .before .pre in
+    let l = c .before .loop in
+    along-length (asked (a .s .request) (a .arcs .now)) (p .0 .regular) (lower-stays (a .s .request .criteria)) (a .labels .now) (a .from) (a .to) (a .a) (a .low) (a .high) (p .1 .0) (p .1 .1 .0) (p .1 .1 .1) (l .labels) (l .c) (l .inv .0)
+
+returns-2 : tie.Need-returns-2 Inv-loop μ-loop
+returns-2 c =
+    let a = c .before .before .before .before .before .before .before .before .before .before .before .before .args in
+    let p = c .before .before .before .before .before .before .before .before .before .before .before .before .pre in
+    let l = c .before .loop in
+    all-words (asked (a .s .request) (a .arcs .now)) (p .0 .regular) (lower-stays (a .s .request .criteria)) (a .labels .now) (a .from) (a .to) (a .a) (a .low) (a .high) (p .1 .0) (p .1 .1 .0) (p .1 .1 .1) (l .labels) (l .c) (l .inv .0) (omega (arith, l .inv .0 .inside))
 
 pub try-arc-spec : {M : Type 1} → statement M
 try-arc-spec =
@@ -75,10 +205,27 @@ try-arc-spec =
     (tie.spec
     Inv-loop
     μ-loop
+    add-end
+    mul-next-fresh
+    sub-next-fresh
+    part-next-fresh-start
+    part-next-fresh-end
+    next-fresh-requires
+    same-length
+    returns
+    sub-places-of
+    places-of-requires
     loop-holds
-    try-cell-requires
-    add-c
+    label-at-requires
+    add-at
+    extend-requires
+    mul-next-fresh-2
+    sub-next-fresh-2
+    part-next-fresh-start-2
+    part-next-fresh-end-2
+    add-next-fresh
+    next-fresh-requires-2
     loop-less
     loop-again
-    same-length
-    returns)
+    same-length-2
+    returns-2)

@@ -5,11 +5,11 @@ use mathlib.Core.List.{List}
 use lib.ListN.{length, set, length-set}
 use Rattle.words.specs.Pieces.{part, write}
 use Rattle.words.proofs.Writes.{write-part}
-use Rattle.labels.proofs.Keeping.{one-cost, two-more}
+use Rattle.keeping.proofs.Keeping.{one-cost, two-more}
 use borrow.Author.Needs.{needs}
 use native.Mathlib.Omega.{arith}
-use Rattle.labels.proofs.keep_costs.Statement.{statement}
-use Rattle.labels.proofs.keep_costs.Tie as tie
+use Rattle.keeping.proofs.keep_costs.Statement.{statement}
+use Rattle.keeping.proofs.keep_costs.Tie as tie
 
 -- nothing written
 none : (xs : List ℕ) (at to : ℕ) → xs ≡ write xs to (part xs at 0)

@@ -4,13 +4,13 @@ use mathlib.Core.Path.{_≡_, sym, ap, _∙_}
 use mathlib.Core.Bool.{Bool, cond}
 use mathlib.Core.List.{List, [], _∷_, _++_, append-assoc}
 use native.Mathlib.Omega.{arith}
-use lib.ListN.{length, getD, set, take, drop, replicate, length-append, length-replicate}
+use lib.ListN.{length, getD, set, take, drop, replicate, length-append}
 use lib.Seq.{take-take}
 use borrow.Author.Tests.{lt-ltb, le-ltb}
 use Rattle.words.specs.Pieces.{part, write}
-use Rattle.words.proofs.Writes.{length-part, getD-part, lent, set-behind, part-more, getD-write-below}
+use Rattle.words.proofs.Writes.{length-part, getD-part, write-part, set-behind, part-more, getD-write-below}
 use Rattle.rounds.specs.Label.{label}
-use Rattle.labels.specs.Words.{keepWords}
+use Rattle.keeping.specs.Kept.{keepWords}
 
 module _ (xs : List ℕ) (at to d : ℕ) (below : at + d + 2 ≤ to) (room : to + d + 2 ≤ length xs) where
   -- one cost more
@@ -35,7 +35,8 @@ module _ (xs : List ℕ) (at to d : ℕ) (below : at + d + 2 ≤ to) (room : to 
       ∙ set-behind xs to (P ++ (2 ∷ [])) (d + 1) 0 more
       ∙ ap (write xs to) (append-assoc P (2 ∷ []) (0 ∷ []))
 
-  step-word : getD (part xs at (d + 2)) d 0 ≡ getD xs (at + d) 0
+  -- its step
+  pub step-word : getD (part xs at (d + 2)) d 0 ≡ getD xs (at + d) 0
   step-word = getD-part xs at (d + 2) d (omega arith)
 
   -- a filled label
@@ -46,14 +47,11 @@ module _ (xs : List ℕ) (at to d : ℕ) (below : at + d + 2 ≤ to) (room : to 
       ap (λ (l : List ℕ). write xs to (label l 2 0)) (sym (take-take d (d + 2) (drop at xs) (omega arith)))
       ∙ sym (ap (λ (b : Bool). write xs to (cond b (label (take d (part xs at (d + 2))) 2 0) (replicate (d + 2) 0))) (lt-ltb 0 (getD (part xs at (d + 2)) d 0) (omega arith)))
 
-  -- an empty one
-  pub keep-empty : (ys : List ℕ) (k : ℕ) → k ≡ d + 2 → getD xs (at + d) 0 ≡ 0 → ys ≡ replicate (length (part xs to k)) 0
-      → take to xs ++ (ys ++ drop k (drop to xs)) ≡ write xs to (keepWords d (part xs at (d + 2)))
+  -- an empty one, where an empty one stands
+  pub keep-empty : getD xs (at + d) 0 ≡ 0 → part xs to (d + 2) ≡ replicate (d + 2) 0 → xs ≡ write xs to (keepWords d (part xs at (d + 2)))
   unfolding keepWords
-  keep-empty ys k e z ey =
+  keep-empty z e =
       let s = step-word in
-      let size : length (part xs to k) ≡ d + 2 = length-part xs to k (omega arith) ∙ e in
-      let new : ys ≡ replicate (d + 2) 0 = ey ∙ ap (λ (n : ℕ). replicate n 0) size in
-      lent xs to k ys (ap length new ∙ length-replicate (d + 2) 0 ∙ sym e) (omega arith)
-      ∙ ap (write xs to) new
-      ∙ sym (ap (λ (b : Bool). write xs to (cond b (label (take d (part xs at (d + 2))) 2 0) (replicate (d + 2) 0))) (le-ltb 0 (getD (part xs at (d + 2)) d 0) (omega arith)))
+      sym (ap (λ (b : Bool). write xs to (cond b (label (take d (part xs at (d + 2))) 2 0) (replicate (d + 2) 0))) (le-ltb 0 (getD (part xs at (d + 2)) d 0) (omega arith))
+      ∙ ap (write xs to) (sym e)
+      ∙ write-part xs to (d + 2))

@@ -1,0 +1,4 @@
+pub mod Keeping
+pub mod Notes
+pub mod Blocks
+pub mod Layers
