@@ -1,7 +1,7 @@
 -- The cell of a candidate, criterion by criterion. Assumes nothing.
 use Prim.Native.Nat.{ℕ, _+_, _-_, _*_, _≤_, _<_, zero-le}
-use mathlib.Core.Path.{_≡_, refl, sym, ap₂, _∙_, subst}
-use mathlib.Core.List.{List, [], _∷_}
+use mathlib.Core.Path.{_≡_, sym, ap₂, _∙_, subst}
+use mathlib.Core.List.{List}
 use native.Mathlib.Nat.{le-refl, le-of-lt, not-suc-le-zero, mul-le-mul-right}
 use native.Mathlib.Omega.{arith}
 use lib.ListN.{length, getD, set, length-set}
@@ -43,7 +43,7 @@ module _ (counts : List ℕ) (graded : ℕ) (ladders cand hint : List ℕ) (h : 
     offset-next = total-next (λ i. getD counts i 0 + 1) j
 
     -- ladder j lies in the buffer
-    pub room : at + getD counts j 0 + 1 ≤ length ladders
+    room : at + getD counts j 0 + 1 ≤ length ladders
     unfolding offset
     room =
         let n = total-next (λ i. getD counts i 0 + 1) j in
@@ -69,12 +69,31 @@ module _ (counts : List ℕ) (graded : ℕ) (ladders cand hint : List ℕ) (h : 
     cell-lt : cell < volume (λ i. getD counts i 0) j
     cell-lt = rw (u .number) (radix-lt (λ i. getD counts i 0) (λ i. getD places i 0) j (λ i m. u .below i (omega arith)))
 
-    pub product : cell * getD counts j 0 ≤ 16777216
+    product : cell * getD counts j 0 ≤ 16777216
     product =
         let v = volume-next (λ i. getD counts i 0) j in
         let s = h .small (j + 1) (omega arith) in
         let m = mul-le-mul-right (getD counts j 0) (le-of-lt cell-lt) in
         omega arith
+
+    -- what is known of criterion j, in numbers
+    pub record Here : Type 0 where
+      pub index : j < 2
+      pub in-cand : j < length cand
+      pub in-places : j < length places
+      pub ladder : at + getD counts j 0 + 1 ≤ length ladders
+      pub size : getD counts j 0 ≤ 4096
+      pub number : cell * getD counts j 0 ≤ 16777216
+
+    pub here : Here
+    here = record {
+      index = omega (arith, h .few);
+      in-cand = omega (arith, h .long);
+      in-places = omega (arith, h .few, u .two);
+      ladder = room;
+      size = h .counts-few j l;
+      number = product;
+    }
 
     -- one place more
     module _ (found : ℕ) (s : Slot (part ladders at (at + getD counts j 0 + 1 - at)) (getD cand j 0) found) where
@@ -84,8 +103,8 @@ module _ (counts : List ℕ) (graded : ℕ) (ladders cand hint : List ℕ) (h : 
       kept : (i : ℕ) → (i ≡ j → ⊥) → getD (set places j found) i 0 ≡ getD places i 0
       kept i ne = getD-set-other places j i found 0 ne
 
-      here : getD (set places j found) j 0 ≡ found
-      here = let t = u .two in let f = h .few in getD-set-same places j found 0 (omega arith)
+      new : getD (set places j found) j 0 ≡ found
+      new = let t = u .two in let f = h .few in getD-set-same places j found 0 (omega arith)
 
       pub one-more : Upto counts graded ladders cand (set places j found) (cell * getD counts j 0 + found) (at + getD counts j 0 + 1) (j + 1)
       one-more = record {
@@ -94,15 +113,15 @@ module _ (counts : List ℕ) (graded : ℕ) (ladders cand hint : List ℕ) (h : 
         begins = (let b = u .begins in let n = offset-next in omega arith);
         slots = below-next (λ i. Slot (ladderIn counts ladders i) (getD cand i 0) (getD (set places j found) i 0)) j
             (λ i m. subst (λ (r : ℕ). Slot (ladderIn counts ladders i) (getD cand i 0) r) (sym (kept i (λ q. absurd (omega arith)))) (u .slots i m))
-            (subst (λ (r : ℕ). Slot (ladderIn counts ladders j) (getD cand j 0) r) (sym here) (subst (λ (p : List ℕ). Slot p (getD cand j 0) found) lent-ladder s));
+            (subst (λ (r : ℕ). Slot (ladderIn counts ladders j) (getD cand j 0) r) (sym new) (subst (λ (p : List ℕ). Slot p (getD cand j 0) found) lent-ladder s));
         below = λ i m. lower i m (ℕ-discrete i j);
         number =
-            ap₂ (λ (x y : ℕ). x * getD counts j 0 + y) (u .number ∙ radix-ext (λ i. getD counts i 0) (λ i. getD places i 0) (λ i. getD (set places j found) i 0) j (λ i m. sym (kept i (λ q. absurd (omega arith))))) (sym here)
+            ap₂ (λ (x y : ℕ). x * getD counts j 0 + y) (u .number ∙ radix-ext (λ i. getD counts i 0) (λ i. getD places i 0) (λ i. getD (set places j found) i 0) j (λ i m. sym (kept i (λ q. absurd (omega arith))))) (sym new)
             ∙ sym (radix-next (λ i. getD counts i 0) (λ i. getD (set places j found) i 0) j);
       }
         where
           lower : (i : ℕ) → i < graded → Dec (i ≡ j) → getD (set places j found) i 0 < getD counts i 0
-          lower i m (yes q) = rw (q, here) found-lt
+          lower i m (yes q) = rw (q, new) found-lt
           lower i m (no q) = rw (kept i q) (u .below i m)
 
 -- ---- the places of a cell, by division
@@ -113,8 +132,8 @@ pub record Digits (counts : List ℕ) (graded : ℕ) (places : List ℕ) (j : �
   pub two : length places ≡ 2
   pub below : (i : ℕ) → j ≤ i → i < graded → getD places i 0 < getD counts i 0
 
-pub none-divided : (counts : List ℕ) (graded : ℕ) → Digits counts graded (0 ∷ 0 ∷ []) graded
-none-divided counts graded = record { inside = le-refl graded; two = refl; below = λ i l h. absurd (omega arith) }
+pub none-divided : (counts : List ℕ) (graded : ℕ) (places : List ℕ) → length places ≡ 2 → Digits counts graded places graded
+none-divided counts graded places e = record { inside = le-refl graded; two = e; below = λ i l h. absurd (omega arith) }
 
 -- place j - 1, a remainder
 pub one-divided : (counts : List ℕ) (graded : ℕ) (places : List ℕ) (j : ℕ) → Digits counts graded places j → graded ≤ 2 → 0 < j → (n : ℕ) → n < getD counts (j - 1) 0

@@ -43,24 +43,18 @@ pub fn place(cell: &mut [u32], cand: &[u32], d: usize)
     }
 }
 
-// A cell, and the places that its number is made of.
-pub struct Found {
-    pub cell: usize,
-    pub places: [usize; 2],
-}
-
-// The cell of a candidate among the ladders, looked for from a hint for each criterion.
+// The cell of a candidate among the ladders. Its places are looked for from those of the last one, which are lent, and take their
+// place.
 pub fn find_cell(
     cand: &[u32],
     ladders: &[u32],
+    places: &mut [usize],
     counts: [usize; 2],
     graded: usize,
-    hint: [usize; 2],
-) -> Found
-    requires { ⌜ Seeks counts graded (now ladders) (now cand) hint ⌝ }
-    ensures { λ r. ⌜ Found-at counts graded (now (ladders .entry)) (now (cand .entry)) (r .cell) (r .places) ⌝ }
+) -> usize
+    requires { ⌜ Seeks counts graded (now ladders) (now cand) (now places) ⌝ }
+    ensures { λ r. ⌜ Found-at counts graded (now (ladders .entry)) (now (cand .entry)) r (now (places .exit)) ⌝ }
 {
-    let mut places = hint;
     let mut cell: usize = 0;
     let mut at: usize = 0;
     let mut j: usize = 0;
@@ -73,15 +67,14 @@ pub fn find_cell(
         at = end;
         j += 1;
     }
-    Found { cell, places }
+    cell
 }
 
-// A cell and the places whose number it is, found by division: where to look first for what its label makes.
-pub fn places_of(cell: usize, counts: [usize; 2], graded: usize) -> Found
-    requires { ⌜ (graded ≤ 2) × ((j : ℕ) → j < graded → 0 < getD counts j 0) ⌝ }
-    ensures { λ r. ⌜ (length (r .places) ≡ 2) × ((j : ℕ) → j < graded → getD (r .places) j 0 < getD counts j 0) ⌝ }
+// The places whose number a cell is, found by division: where to look first for what its label makes.
+pub fn places_of(cell: usize, places: &mut [usize], counts: [usize; 2], graded: usize)
+    requires { ⌜ (graded ≤ 2) × (length (now places) ≡ 2) × ((j : ℕ) → j < graded → 0 < getD counts j 0) ⌝ }
+    ensures { λ _. ⌜ (length (now (places .exit)) ≡ 2) × ((j : ℕ) → j < graded → getD (now (places .exit)) j 0 < getD counts j 0) ⌝ }
 {
-    let mut places = [0usize; 2];
     let mut rest = cell;
     let mut j = graded;
     while 0 < j {
@@ -90,5 +83,4 @@ pub fn places_of(cell: usize, counts: [usize; 2], graded: usize) -> Found
         places[j] = rest % size;
         rest = rest / size;
     }
-    Found { cell, places }
 }

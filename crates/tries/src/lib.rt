@@ -1,5 +1,4 @@
 // The tries of one arc: each filled label of the tail's block, extended and offered to the head's block.
-use labels::Found;
 use labels::add_costs;
 use labels::find_cell;
 use labels::place;
@@ -47,41 +46,41 @@ fn offer(labels: &mut [u32], cand: &[u32], s: Frame, to: usize, cell: usize)
     place(&mut labels[at..end], cand, s.d);
 }
 
-// A candidate is offered to its own cell of the block at `to`, looked for from a hint.
+// A candidate is offered to its own cell of the block at `to`, looked for from the places found last: the cell.
 fn offer_found(
     labels: &mut [u32],
     cand: &[u32],
     ladders: &[u32],
+    places: &mut [usize],
     s: Frame,
     to: usize,
-    hint: [usize; 2],
-) -> Found
+) -> usize
     requires { ⌜ Sized s ⌝ }
-    requires { ⌜ Seeks (s .counts) (s .d - 1) (now ladders) (now cand) hint ⌝ }
+    requires { ⌜ Seeks (s .counts) (s .d - 1) (now ladders) (now cand) (now places) ⌝ }
     requires { ⌜ (volume (λ i. getD (s .counts) i 0) (s .d - 1) ≡ s .cells) × (length (now cand) ≡ s .w) × (to + s .span ≤ length (now labels)) ⌝ }
-    ensures { λ r. ⌜ (now (labels .exit) ≡ write (now (labels .entry)) to (offered (s .d) (part (now (labels .entry)) to (s .span)) (r .cell) (now (cand .entry)))) × Found-at (s .counts) (s .d - 1) (now (ladders .entry)) (now (cand .entry)) (r .cell) (r .places) ⌝ }
+    ensures { λ r. ⌜ (now (labels .exit) ≡ write (now (labels .entry)) to (offered (s .d) (part (now (labels .entry)) to (s .span)) r (now (cand .entry)))) × Found-at (s .counts) (s .d - 1) (now (ladders .entry)) (now (cand .entry)) r (now (places .exit)) ⌝ }
 {
     let counts = s.counts;
-    let found = find_cell(cand, ladders, counts, s.d - 1, hint);
-    offer(labels, cand, s, to, found.cell);
-    found
+    let cell = find_cell(cand, ladders, places, counts, s.d - 1);
+    offer(labels, cand, s, to, cell);
+    cell
 }
 
-// The label at `at`, in cell c of its block, is extended by arc a, and the candidate offered to the block at `to`.
+// The label at `at`, in cell c of its block, is extended by arc a, and the candidate offered to the block at `to`: its cell.
 fn extend(
     labels: &mut [u32],
     arcs: &[u32],
     ladders: &[u32],
+    places: &mut [usize],
     s: Frame,
     at: usize,
     to: usize,
     a: usize,
     c: usize,
-    hint: [usize; 2],
-) -> Found
+) -> usize
     requires { ⌜ Sized s ⌝ }
-    requires { ⌜ Extends s (now labels) (now arcs) (now ladders) at to a c hint ⌝ }
-    ensures { λ r. ⌜ (now (labels .exit) ≡ write (now (labels .entry)) to (offered (s .d) (part (now (labels .entry)) to (s .span)) (r .cell) (extended (s .d) (part (now (labels .entry)) at (s .w)) (part (now (arcs .entry)) (a * s .w) (s .w)) a c))) × Found-at (s .counts) (s .d - 1) (now (ladders .entry)) (extended (s .d) (part (now (labels .entry)) at (s .w)) (part (now (arcs .entry)) (a * s .w) (s .w)) a c) (r .cell) (r .places) ⌝ }
+    requires { ⌜ Extends s (now labels) (now arcs) (now ladders) at to a c (now places) ⌝ }
+    ensures { λ r. ⌜ (now (labels .exit) ≡ write (now (labels .entry)) to (offered (s .d) (part (now (labels .entry)) to (s .span)) r (extended (s .d) (part (now (labels .entry)) at (s .w)) (part (now (arcs .entry)) (a * s .w) (s .w)) a c))) × Found-at (s .counts) (s .d - 1) (now (ladders .entry)) (extended (s .d) (part (now (labels .entry)) at (s .w)) (part (now (arcs .entry)) (a * s .w) (s .w)) a c) r (now (places .exit)) ⌝ }
 {
     let w = s.w;
     let end = at + w;
@@ -96,7 +95,7 @@ fn extend(
         (a + 3) as u32,
         c as u32,
     );
-    offer_found(labels, &cand[..w], ladders, s, to, hint)
+    offer_found(labels, &cand[..w], ladders, places, s, to)
 }
 
 // Whether a step word says empty or kept.
@@ -153,11 +152,11 @@ pub fn try_arc(
         return;
     }
     let counts = s.counts;
-    let mut last = places_of(c, counts, d - 1);
+    let mut places = [0usize; 2];
+    places_of(c, &mut places, counts, d - 1);
     while c < high {
         let at = from + label_at(s, c);
-        let hint = last.places;
-        last = extend(labels, arcs, ladders, s, at, to, a, c, hint);
+        extend(labels, arcs, ladders, &mut places, s, at, to, a, c);
         c = next_fresh(&labels[from..end], d, c + 1, high);
     }
 }

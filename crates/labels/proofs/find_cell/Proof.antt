@@ -5,65 +5,63 @@ use mathlib.Core.List.{List}
 use lib.ListN.{getD}
 use Rattle.words.specs.Radix.{radix}
 use Rattle.fences.specs.Answer.{Bracket}
-use Rattle.labels.proofs.Finding.{Upto, none-yet, room, lent-ladder, lent-length, product, found-lt, one-more}
+use Rattle.labels.proofs.Finding.{Upto, none-yet, here, lent-ladder, lent-length, found-lt, one-more}
 use borrow.Author.Needs.{needs}
 use native.Mathlib.Omega.{arith}
 use Rattle.labels.proofs.find_cell.Statement.{statement}
 use Rattle.labels.proofs.find_cell.Tie as tie
 
 abbrev Inv-loop : tie.InvT-loop
-Inv-loop cand ladders graded counts places₀ cell₀ at₀ j₀ places cell at j = Upto counts graded ladders cand places cell at j
+Inv-loop cand ladders places₀ graded counts cell₀ at₀ j₀ places cell at j = Upto counts graded ladders cand places cell at j
 
 abbrev μ-loop : tie.MeasureT-loop
-μ-loop cand ladders graded counts places₀ cell₀ at₀ j₀ places cell at j = graded - j
+μ-loop cand ladders places₀ graded counts cell₀ at₀ j₀ places cell at j = graded - j
 
 loop-holds : tie.Need-loop-holds Inv-loop μ-loop
-loop-holds c = let a = c .before .before .args in none-yet (a .t3) (a .graded) (a .ladders .now) (a .cand .now) (a .hint) (c .before .before .pre)
+loop-holds c =
+    let a = c .before .before .before .args in
+    let p = c .before .before .before .pre in
+    none-yet (a .t4) (a .graded) (a .ladders .now) (a .cand .now) (a .places .now) p
 
 mul-size : tie.Need-mul-size Inv-loop μ-loop
 mul-size c =
-    let a = c .before .before .before .before .args in
+    let a = c .before .before .before .before .before .args in
+    let p = c .before .before .before .before .before .pre in
     let l = c .before .loop in
-    let p = c .before .before .before .before .pre in
-    let few = p .few in
-    let r = room (a .t3) (a .graded) (a .ladders .now) (a .cand .now) (a .hint) p (l .places) (l .cell) (l .at) (l .j) (l .inv) (c .loop-test .taken) in
-    omega arith
+    let t = c .loop-test .taken in
+    omega (arith, here (a .t4) (a .graded) (a .ladders .now) (a .cand .now) (a .places .now) p (l .places) (l .cell) (l .at) (l .j) (l .inv) t)
 
 array-read-size : tie.Need-array-read-size Inv-loop μ-loop
 array-read-size c =
-    let a = c .before .before .before .before .args in
+    let a = c .before .before .before .before .before .args in
+    let p = c .before .before .before .before .before .pre in
     let l = c .before .loop in
-    let p = c .before .before .before .before .pre in
-    let few = p .few in
-    let r = room (a .t3) (a .graded) (a .ladders .now) (a .cand .now) (a .hint) p (l .places) (l .cell) (l .at) (l .j) (l .inv) (c .loop-test .taken) in
-    omega arith
+    let t = c .loop-test .taken in
+    omega (arith, here (a .t4) (a .graded) (a .ladders .now) (a .cand .now) (a .places .now) p (l .places) (l .cell) (l .at) (l .j) (l .inv) t)
 
 add-end : tie.Need-add-end Inv-loop μ-loop
 add-end c =
-    let a = c .before .before .before .before .args in
+    let a = c .before .before .before .before .before .args in
+    let p = c .before .before .before .before .before .pre in
     let l = c .before .loop in
-    let p = c .before .before .before .before .pre in
-    let few = p .few in
-    let r = room (a .t3) (a .graded) (a .ladders .now) (a .cand .now) (a .hint) p (l .places) (l .cell) (l .at) (l .j) (l .inv) (c .loop-test .taken) in
-    omega arith
+    let t = c .loop-test .taken in
+    omega (arith, here (a .t4) (a .graded) (a .ladders .now) (a .cand .now) (a .places .now) p (l .places) (l .cell) (l .at) (l .j) (l .inv) t)
 
 add-end-2 : tie.Need-add-end-2 Inv-loop μ-loop
 add-end-2 c =
-    let a = c .before .before .before .before .args in
+    let a = c .before .before .before .before .before .args in
+    let p = c .before .before .before .before .before .pre in
     let l = c .before .loop in
-    let p = c .before .before .before .before .pre in
-    let few = p .few in
-    let r = room (a .t3) (a .graded) (a .ladders .now) (a .cand .now) (a .hint) p (l .places) (l .cell) (l .at) (l .j) (l .inv) (c .loop-test .taken) in
-    omega arith
+    let t = c .loop-test .taken in
+    omega (arith, here (a .t4) (a .graded) (a .ladders .now) (a .cand .now) (a .places .now) p (l .places) (l .cell) (l .at) (l .j) (l .inv) t)
 
 mul-seek : tie.Need-mul-seek Inv-loop μ-loop
 mul-seek c =
-    let a = c .before .before .before .before .args in
+    let a = c .before .before .before .before .before .args in
+    let p = c .before .before .before .before .before .pre in
     let l = c .before .loop in
-    let p = c .before .before .before .before .pre in
-    let few = p .few in
-    let r = room (a .t3) (a .graded) (a .ladders .now) (a .cand .now) (a .hint) p (l .places) (l .cell) (l .at) (l .j) (l .inv) (c .loop-test .taken) in
-    omega arith
+    let t = c .loop-test .taken in
+    omega (arith, here (a .t4) (a .graded) (a .ladders .now) (a .cand .now) (a .places .now) p (l .places) (l .cell) (l .at) (l .j) (l .inv) t)
 
 sub-seek : tie.Need-sub-seek Inv-loop μ-loop
 sub-seek c = search needs
@@ -73,140 +71,128 @@ part-seek-start c = search needs
 
 part-seek-end : tie.Need-part-seek-end Inv-loop μ-loop
 part-seek-end c =
-    let a = c .before .before .before .before .args in
+    let a = c .before .before .before .before .before .args in
+    let p = c .before .before .before .before .before .pre in
     let l = c .before .loop in
-    let p = c .before .before .before .before .pre in
-    let few = p .few in
-    let r = room (a .t3) (a .graded) (a .ladders .now) (a .cand .now) (a .hint) p (l .places) (l .cell) (l .at) (l .j) (l .inv) (c .loop-test .taken) in
-    omega arith
+    let t = c .loop-test .taken in
+    omega (arith, here (a .t4) (a .graded) (a .ladders .now) (a .cand .now) (a .places .now) p (l .places) (l .cell) (l .at) (l .j) (l .inv) t)
 
 mul-seek-2 : tie.Need-mul-seek-2 Inv-loop μ-loop
 mul-seek-2 c =
-    let a = c .before .before .before .before .before .args in
+    let a = c .before .before .before .before .before .before .args in
+    let p = c .before .before .before .before .before .before .pre in
     let l = c .before .before .loop in
-    let p = c .before .before .before .before .before .pre in
-    let few = p .few in
-    let r = room (a .t3) (a .graded) (a .ladders .now) (a .cand .now) (a .hint) p (l .places) (l .cell) (l .at) (l .j) (l .inv) (c .before .loop-test .taken) in
-    omega arith
+    let t = c .before .loop-test .taken in
+    omega (arith, here (a .t4) (a .graded) (a .ladders .now) (a .cand .now) (a .places .now) p (l .places) (l .cell) (l .at) (l .j) (l .inv) t)
 
 shared-slice-read-seek : tie.Need-shared-slice-read-seek Inv-loop μ-loop
 shared-slice-read-seek c =
-    let a = c .before .before .before .before .before .before .args in
+    let a = c .before .before .before .before .before .before .before .args in
+    let p = c .before .before .before .before .before .before .before .pre in
     let l = c .before .before .before .loop in
-    let p = c .before .before .before .before .before .before .pre in
-    let few = p .few in
-    let r = room (a .t3) (a .graded) (a .ladders .now) (a .cand .now) (a .hint) p (l .places) (l .cell) (l .at) (l .j) (l .inv) (c .before .before .loop-test .taken) in
-    let long = p .long in
-    omega arith
+    let t = c .before .before .loop-test .taken in
+    omega (arith, here (a .t4) (a .graded) (a .ladders .now) (a .cand .now) (a .places .now) p (l .places) (l .cell) (l .at) (l .j) (l .inv) t)
 
 mul-seek-3 : tie.Need-mul-seek-3 Inv-loop μ-loop
 mul-seek-3 c =
-    let a = c .before .before .before .before .before .before .args in
+    let a = c .before .before .before .before .before .before .before .args in
+    let p = c .before .before .before .before .before .before .before .pre in
     let l = c .before .before .before .loop in
-    let p = c .before .before .before .before .before .before .pre in
-    let few = p .few in
-    let r = room (a .t3) (a .graded) (a .ladders .now) (a .cand .now) (a .hint) p (l .places) (l .cell) (l .at) (l .j) (l .inv) (c .before .before .loop-test .taken) in
-    omega arith
+    let t = c .before .before .loop-test .taken in
+    omega (arith, here (a .t4) (a .graded) (a .ladders .now) (a .cand .now) (a .places .now) p (l .places) (l .cell) (l .at) (l .j) (l .inv) t)
 
-array-read-seek : tie.Need-array-read-seek Inv-loop μ-loop
-array-read-seek c =
-    let a = c .before .before .before .before .before .before .args in
-    let l = c .before .before .before .loop in
-    let p = c .before .before .before .before .before .before .pre in
-    let few = p .few in
-    let r = room (a .t3) (a .graded) (a .ladders .now) (a .cand .now) (a .hint) p (l .places) (l .cell) (l .at) (l .j) (l .inv) (c .before .before .loop-test .taken) in
-    omega arith
+slice-read-seek : tie.Need-slice-read-seek Inv-loop μ-loop
+slice-read-seek c =
+    let a = c .before .before .before .before .before .before .before .before .args in
+    let p = c .before .before .before .before .before .before .before .before .pre in
+    let l = c .before .before .before .before .loop in
+    let t = c .before .before .before .loop-test .taken in
+    omega (arith, here (a .t4) (a .graded) (a .ladders .now) (a .cand .now) (a .places .now) p (l .places) (l .cell) (l .at) (l .j) (l .inv) t)
 
 seek-requires : tie.Need-seek-requires Inv-loop μ-loop
 seek-requires c κs =
-    let a = c .before .before .before .before .before .before .args in
-    let l = c .before .before .before .loop in
-    let p = c .before .before .before .before .before .before .pre in
-    let few = p .few in
-    let r = room (a .t3) (a .graded) (a .ladders .now) (a .cand .now) (a .hint) p (l .places) (l .cell) (l .at) (l .j) (l .inv) (c .before .before .loop-test .taken) in
-    let e = lent-ladder (a .t3) (a .graded) (a .ladders .now) (a .cand .now) (a .hint) p (l .places) (l .cell) (l .at) (l .j) (l .inv) (c .before .before .loop-test .taken) in
-    let n = lent-length (a .t3) (a .graded) (a .ladders .now) (a .cand .now) (a .hint) p (l .places) (l .cell) (l .at) (l .j) (l .inv) (c .before .before .loop-test .taken) in
-    let b = l .inv .below (l .j) (c .before .before .loop-test .taken) in
-    (subst (λ (x : List ℕ). Bracket x (getD (a .cand .now) (l .j) 0) 0) (sym e) (p .inside (l .j) (c .before .before .loop-test .taken)), omega arith)
+    let a = c .before .before .before .before .before .before .before .before .args in
+    let p = c .before .before .before .before .before .before .before .before .pre in
+    let l = c .before .before .before .before .loop in
+    let t = c .before .before .before .loop-test .taken in
+    let e = lent-ladder (a .t4) (a .graded) (a .ladders .now) (a .cand .now) (a .places .now) p (l .places) (l .cell) (l .at) (l .j) (l .inv) t in
+    let n = lent-length (a .t4) (a .graded) (a .ladders .now) (a .cand .now) (a .places .now) p (l .places) (l .cell) (l .at) (l .j) (l .inv) t in
+    (subst (λ (x : List ℕ). Bracket x (getD (a .cand .now) (l .j) 0) 0) (sym e) (p .inside (l .j) t), omega (arith, n, l .inv .below (l .j) t))
 
 mul-places : tie.Need-mul-places Inv-loop μ-loop
 mul-places c =
-    let a = c .before .before .before .before .before .before .before .args in
-    let l = c .before .before .before .before .loop in
-    let p = c .before .before .before .before .before .before .before .pre in
-    let few = p .few in
-    let r = room (a .t3) (a .graded) (a .ladders .now) (a .cand .now) (a .hint) p (l .places) (l .cell) (l .at) (l .j) (l .inv) (c .before .before .before .loop-test .taken) in
-    omega arith
+    let a = c .before .before .before .before .before .before .before .before .before .args in
+    let p = c .before .before .before .before .before .before .before .before .before .pre in
+    let l = c .before .before .before .before .before .loop in
+    let t = c .before .before .before .before .loop-test .taken in
+    omega (arith, here (a .t4) (a .graded) (a .ladders .now) (a .cand .now) (a .places .now) p (l .places) (l .cell) (l .at) (l .j) (l .inv) t)
 
-array-write-places : tie.Need-array-write-places Inv-loop μ-loop
-array-write-places c =
-    let a = c .before .before .before .before .before .before .before .args in
-    let l = c .before .before .before .before .loop in
-    let p = c .before .before .before .before .before .before .before .pre in
-    let few = p .few in
-    let r = room (a .t3) (a .graded) (a .ladders .now) (a .cand .now) (a .hint) p (l .places) (l .cell) (l .at) (l .j) (l .inv) (c .before .before .before .loop-test .taken) in
-    omega arith
+slice-write-places : tie.Need-slice-write-places Inv-loop μ-loop
+slice-write-places c =
+    let a = c .before .before .before .before .before .before .before .before .before .args in
+    let p = c .before .before .before .before .before .before .before .before .before .pre in
+    let l = c .before .before .before .before .before .loop in
+    let t = c .before .before .before .before .loop-test .taken in
+    omega (arith, here (a .t4) (a .graded) (a .ladders .now) (a .cand .now) (a .places .now) p (l .places) (l .cell) (l .at) (l .j) (l .inv) t)
 
 mul-cell : tie.Need-mul-cell Inv-loop μ-loop
 mul-cell c =
-    let a = c .before .before .before .before .before .before .before .args in
-    let l = c .before .before .before .before .loop in
-    let p = c .before .before .before .before .before .before .before .pre in
-    let few = p .few in
-    let r = room (a .t3) (a .graded) (a .ladders .now) (a .cand .now) (a .hint) p (l .places) (l .cell) (l .at) (l .j) (l .inv) (c .before .before .before .loop-test .taken) in
-    let q = product (a .t3) (a .graded) (a .ladders .now) (a .cand .now) (a .hint) p (l .places) (l .cell) (l .at) (l .j) (l .inv) (c .before .before .before .loop-test .taken) in
-    omega arith
+    let a = c .before .before .before .before .before .before .before .before .before .args in
+    let p = c .before .before .before .before .before .before .before .before .before .pre in
+    let l = c .before .before .before .before .before .loop in
+    let t = c .before .before .before .before .loop-test .taken in
+    omega (arith, here (a .t4) (a .graded) (a .ladders .now) (a .cand .now) (a .places .now) p (l .places) (l .cell) (l .at) (l .j) (l .inv) t)
 
 add-cell : tie.Need-add-cell Inv-loop μ-loop
 add-cell c =
-    let a = c .before .before .before .before .before .before .before .args in
-    let l = c .before .before .before .before .loop in
-    let p = c .before .before .before .before .before .before .before .pre in
-    let few = p .few in
-    let r = room (a .t3) (a .graded) (a .ladders .now) (a .cand .now) (a .hint) p (l .places) (l .cell) (l .at) (l .j) (l .inv) (c .before .before .before .loop-test .taken) in
-    let q = product (a .t3) (a .graded) (a .ladders .now) (a .cand .now) (a .hint) p (l .places) (l .cell) (l .at) (l .j) (l .inv) (c .before .before .before .loop-test .taken) in
-    let f = found-lt (a .t3) (a .graded) (a .ladders .now) (a .cand .now) (a .hint) p (l .places) (l .cell) (l .at) (l .j) (l .inv) (c .before .before .before .loop-test .taken) (c .seek .result) (c .seek .ensures) in
-    let n = p .counts-few (l .j) (c .before .before .before .loop-test .taken) in
-    omega arith
+    let a = c .before .before .before .before .before .before .before .before .before .args in
+    let p = c .before .before .before .before .before .before .before .before .before .pre in
+    let l = c .before .before .before .before .before .loop in
+    let t = c .before .before .before .before .loop-test .taken in
+    omega (arith, here (a .t4) (a .graded) (a .ladders .now) (a .cand .now) (a .places .now) p (l .places) (l .cell) (l .at) (l .j) (l .inv) t, found-lt (a .t4) (a .graded) (a .ladders .now) (a .cand .now) (a .places .now) p (l .places) (l .cell) (l .at) (l .j) (l .inv) t (c .seek .result) (c .seek .ensures))
 
 add-j : tie.Need-add-j Inv-loop μ-loop
 add-j c =
-    let a = c .before .before .before .before .before .before .before .args in
-    let l = c .before .before .before .before .loop in
-    let p = c .before .before .before .before .before .before .before .pre in
-    let few = p .few in
-    let r = room (a .t3) (a .graded) (a .ladders .now) (a .cand .now) (a .hint) p (l .places) (l .cell) (l .at) (l .j) (l .inv) (c .before .before .before .loop-test .taken) in
-    omega arith
+    let a = c .before .before .before .before .before .before .before .before .before .args in
+    let p = c .before .before .before .before .before .before .before .before .before .pre in
+    let l = c .before .before .before .before .before .loop in
+    let t = c .before .before .before .before .loop-test .taken in
+    omega (arith, here (a .t4) (a .graded) (a .ladders .now) (a .cand .now) (a .places .now) p (l .places) (l .cell) (l .at) (l .j) (l .inv) t)
 
 loop-less : tie.Need-loop-less Inv-loop μ-loop
 loop-less c =
-    let a = c .before .before .before .before .before .before .before .args in
-    let l = c .before .before .before .before .loop in
-    let p = c .before .before .before .before .before .before .before .pre in
-    let few = p .few in
-    let r = room (a .t3) (a .graded) (a .ladders .now) (a .cand .now) (a .hint) p (l .places) (l .cell) (l .at) (l .j) (l .inv) (c .before .before .before .loop-test .taken) in
-    omega arith
+    let a = c .before .before .before .before .before .before .before .before .before .args in
+    let p = c .before .before .before .before .before .before .before .before .before .pre in
+    let l = c .before .before .before .before .before .loop in
+    let t = c .before .before .before .before .loop-test .taken in
+    omega (arith, t)
 
 loop-again : tie.Need-loop-again Inv-loop μ-loop
 loop-again c =
-    let a = c .before .before .before .before .before .before .before .args in
-    let l = c .before .before .before .before .loop in
-    let p = c .before .before .before .before .before .before .before .pre in
-    let few = p .few in
-    let r = room (a .t3) (a .graded) (a .ladders .now) (a .cand .now) (a .hint) p (l .places) (l .cell) (l .at) (l .j) (l .inv) (c .before .before .before .loop-test .taken) in
-    one-more (a .t3) (a .graded) (a .ladders .now) (a .cand .now) (a .hint) p (l .places) (l .cell) (l .at) (l .j) (l .inv) (c .before .before .before .loop-test .taken) (c .seek .result) (c .seek .ensures)
+    let a = c .before .before .before .before .before .before .before .before .before .args in
+    let p = c .before .before .before .before .before .before .before .before .before .pre in
+    let l = c .before .before .before .before .before .loop in
+    let t = c .before .before .before .before .loop-test .taken in
+    one-more (a .t4) (a .graded) (a .ladders .now) (a .cand .now) (a .places .now) p (l .places) (l .cell) (l .at) (l .j) (l .inv) t (c .seek .result) (c .seek .ensures)
+
+same-length : tie.Need-same-length Inv-loop μ-loop
+same-length c =
+    let a = c .before .before .before .before .before .args in
+    let p = c .before .before .before .before .before .pre in
+    let l = c .before .loop in
+    omega (arith, l .inv .two, p .two)
 
 returns : tie.Need-returns Inv-loop μ-loop
 returns c =
-    let a = c .before .before .before .before .args in
+    let a = c .before .before .before .before .before .args in
+    let p = c .before .before .before .before .before .pre in
     let l = c .before .loop in
     let u = l .inv in
-    let i = u .inside in
-    let e : l .j ≡ a .graded = omega arith in
+    let e : l .j ≡ a .graded = omega (arith, u .inside) in
     record {
       two = u .two;
       slot = λ j m. u .slots j (rw e m);
-      number = u .number ∙ ap (radix (λ i. getD (a .t3) i 0) (λ i. getD (l .places) i 0)) e;
+      number = u .number ∙ ap (radix (λ i. getD (a .t4) i 0) (λ i. getD (l .places) i 0)) e;
       below = u .below;
     }
 
@@ -228,13 +214,14 @@ find-cell-spec =
     mul-seek-2
     shared-slice-read-seek
     mul-seek-3
-    array-read-seek
+    slice-read-seek
     seek-requires
     mul-places
-    array-write-places
+    slice-write-places
     mul-cell
     add-cell
     add-j
     loop-less
     loop-again
+    same-length
     returns)
