@@ -49,6 +49,34 @@ static inline uint32_t by_climbing(const uint32_t *ladder, uint32_t last, uint32
     return last;
 }
 
+/* The same from a table: costs of one key, which is the highest nine bits of a cost and where they stand, have their lowest position
+ * looked up, and the rest is climbed. */
+enum { KEYS = 256 * 20 };
+
+static inline uint32_t key_of(uint32_t cost) {
+    if (cost < 256)
+        return cost;
+    uint32_t up = 23 - (uint32_t)__builtin_clz(cost);
+    return (up + 1) * 256 + ((cost >> up) & 255);
+}
+
+static void fill_keys(uint16_t *keys, const uint32_t *ladder, uint32_t buckets) {
+    uint32_t at = 0;
+    for (uint32_t key = 0; key < KEYS; key++) {
+        uint32_t up = key < 512 ? 0 : key / 256 - 1, low = key < 256 ? key : (256 + key % 256) << up;
+        while (at + 1 < buckets && ladder[at + 1] <= low)
+            at++;
+        keys[key] = (uint16_t)at;
+    }
+}
+
+static inline uint32_t by_key(const uint16_t *keys, const uint32_t *ladder, uint32_t cost) {
+    uint32_t at = keys[key_of(cost)];
+    while (ladder[at + 1] <= cost)
+        at++;
+    return at;
+}
+
 static inline __attribute__((always_inline)) uint64_t build(enum find find, const uint32_t *restrict request, const uint32_t *restrict arcs, uint32_t m,
                                                             struct plain_shape shape, uint32_t *restrict ladders, uint32_t *restrict labels) {
     uint32_t n = request[GOWKAROO_AT_NODES], d = request[GOWKAROO_AT_CRITERIA], k = request[GOWKAROO_AT_HOPS], w = d + 2;
@@ -61,6 +89,9 @@ static inline __attribute__((always_inline)) uint64_t build(enum find find, cons
         for (uint32_t i = 0; i < shape.buckets[j]; i++)
             ladder[j][i + 1] = next_fence(request[GOWKAROO_AT_P1 + 2 * j], request[GOWKAROO_AT_Q1 + 2 * j], ladder[j][i]);
     }
+    static uint16_t keys[2][KEYS];
+    for (uint32_t j = 0; find == FIND_BY_KEY && j + 1 < d; j++)
+        fill_keys(keys[j], ladder[j], shape.buckets[j]);
     /* "Layer 0 is empty but for the source's cell 0, a start." */
     for (size_t i = 0; i < layer; i++)
         labels[i] = 0;
@@ -90,7 +121,9 @@ static inline __attribute__((always_inline)) uint64_t build(enum find find, cons
                 for (uint32_t j = 0; j < d; j++)
                     costs[j] = label[j] + arc[2 + j];
                 for (uint32_t j = 0; j + 1 < d; j++) {
-                    last[j] = find == FIND_BY_HALVES ? by_halves(ladder[j], shape.buckets[j], costs[j]) : by_climbing(ladder[j], last[j], costs[j]);
+                    last[j] = find == FIND_BY_HALVES ? by_halves(ladder[j], shape.buckets[j], costs[j])
+                              : find == FIND_BY_KEY  ? by_key(keys[j], ladder[j], costs[j])
+                                                     : by_climbing(ladder[j], last[j], costs[j]);
                     cell = cell * shape.buckets[j] + last[j];
                 }
                 /* "It goes to its cell at the head in layer i if that is empty or holds a strictly larger last cost." */
@@ -113,4 +146,8 @@ uint64_t plain_build_by_halves(const uint32_t *request, const uint32_t *arcs, ui
 
 uint64_t plain_build_by_climbing(const uint32_t *request, const uint32_t *arcs, uint32_t m, struct plain_shape shape, uint32_t *ladders, uint32_t *labels) {
     return build(FIND_BY_CLIMBING, request, arcs, m, shape, ladders, labels);
+}
+
+uint64_t plain_build_by_key(const uint32_t *request, const uint32_t *arcs, uint32_t m, struct plain_shape shape, uint32_t *ladders, uint32_t *labels) {
+    return build(FIND_BY_KEY, request, arcs, m, shape, ladders, labels);
 }

@@ -6,7 +6,7 @@
 #include <stdint.h>
 
 /* How a cost's position is found on its ladder. */
-enum find { FIND_BY_HALVES, FIND_BY_CLIMBING };
+enum find { FIND_BY_HALVES, FIND_BY_CLIMBING, FIND_BY_KEY };
 
 /* The sizes of a request's table. */
 struct plain_shape {
@@ -22,5 +22,6 @@ struct plain_shape plain_shape(const uint32_t *request, const uint32_t *arcs, ui
 /* Fills the ladders and the labels of an accepted request, whose shape is given, and answers the sum of all tries. */
 uint64_t plain_build_by_halves(const uint32_t *request, const uint32_t *arcs, uint32_t m, struct plain_shape shape, uint32_t *ladders, uint32_t *labels);
 uint64_t plain_build_by_climbing(const uint32_t *request, const uint32_t *arcs, uint32_t m, struct plain_shape shape, uint32_t *ladders, uint32_t *labels);
+uint64_t plain_build_by_key(const uint32_t *request, const uint32_t *arcs, uint32_t m, struct plain_shape shape, uint32_t *ladders, uint32_t *labels);
 
 #endif
