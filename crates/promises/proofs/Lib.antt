@@ -1,0 +1,6 @@
+pub mod Agree
+pub mod Entries
+pub mod Calls
+pub mod Texts
+pub mod Parts
+pub mod Exceptions
