@@ -4,3 +4,4 @@ pub mod Calls
 pub mod Texts
 pub mod Parts
 pub mod Exceptions
+pub mod StandIns
