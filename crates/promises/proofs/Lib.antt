@@ -4,4 +4,5 @@ pub mod Calls
 pub mod Texts
 pub mod Parts
 pub mod Exceptions
+pub mod Says
 pub mod StandIns

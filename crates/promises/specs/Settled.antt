@@ -4,7 +4,7 @@ use Prim.Native.Nat.{ℕ}
 use mathlib.Core.Path.{_≡_}
 use mathlib.Core.List.{List}
 use contract.Lifetimes.{Lfts}
-use denote.Triple.Clauses.{Lasts, atExit}
+use denote.Triple.Clauses.{Lasts, AtExit, atExit}
 use borrow.Fn.Kinds.{PK, RK, In, Out, Dens, resT, endedOf}
 
 module _ {n : ℕ} (ps : List (PK n)) (r : RK n) where
@@ -20,3 +20,7 @@ module _ {n : ℕ} (ps : List (PK n)) (r : RK n) where
   -- THE PROMISE LEAVES ONE ANSWER: one result, and one value of every word of lent memory
   abbrev pub Settled : In n ps → Out n ps r → Type 0
   Settled = SettledAs (λ κs. resT r κs .Denot) (λ κs x. x)
+
+  -- every result that the promise allows has this property
+  abbrev pub Promised : Out n ps r → ((κs : Lfts n) → Dens κs ps → resT r κs .Denot → Type 0) → Type 0
+  Promised promise Has = (κs : Lfts n) (a : Dens κs ps) (x : resT r κs .Denot) (e : AtExit (endedOf n ps r) κs) → promise κs a x e → Has κs a x
