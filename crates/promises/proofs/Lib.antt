@@ -5,4 +5,6 @@ pub mod Texts
 pub mod Parts
 pub mod Exceptions
 pub mod Says
+pub mod Refusals
+pub mod Demands
 pub mod StandIns

@@ -24,3 +24,8 @@ module _ {n : ℕ} (ps : List (PK n)) (r : RK n) where
   -- every result that the promise allows has this property
   abbrev pub Promised : Out n ps r → ((κs : Lfts n) → Dens κs ps → resT r κs .Denot → Type 0) → Type 0
   Promised promise Has = (κs : Lfts n) (a : Dens κs ps) (x : resT r κs .Denot) (e : AtExit (endedOf n ps r) κs) → promise κs a x e → Has κs a x
+
+  -- "A refused call leaves the lent buffers just as they came": with a result that is a refusal go the last values that came
+  abbrev pub Leaves : ((κs : Lfts n) (a : Dens κs ps) → Lasts (endedOf n ps r) κs a) → ((κs : Lfts n) → resT r κs .Denot → Type 0) → Out n ps r → Type 0
+  Leaves came IsRefusal promise =
+      (κs : Lfts n) (a : Dens κs ps) (x : resT r κs .Denot) (v : Lasts (endedOf n ps r) κs a) → promise κs a x (atExit (endedOf n ps r) κs a v) → IsRefusal κs x → v ≡ came κs a
