@@ -72,8 +72,14 @@ demand1 = record {
   read-refused = λ s arcs k d.
       let e = decides-refused (readerRows s (length arcs)) k d in
       (ap (λ (w : Weighed). told w (length (wordsOf (sheetOf s)))) e, ap (λ (w : Weighed). settle w (write arcs 0 (wordsOf (sheetOf s))) arcs) e);
+  read-accepted = λ s arcs h.
+      let e = none-clear (readerRows s (length arcs)) h in
+      (ap (λ (w : Weighed). told w (length (wordsOf (sheetOf s)))) e, ap (λ (w : Weighed). settle w (write arcs 0 (wordsOf (sheetOf s))) arcs) e);
   write-refused = λ q arcs sheet k d.
       let e = decides-refused (writerRows q arcs (length sheet)) k d in
+      (ap (λ (w : Weighed). told w (length (written q arcs))) e, ap (λ (w : Weighed). settle w (write sheet 0 (written q arcs)) sheet) e);
+  write-accepted = λ q arcs sheet h.
+      let e = none-clear (writerRows q arcs (length sheet)) h in
       (ap (λ (w : Weighed). told w (length (written q arcs))) e, ap (λ (w : Weighed). settle w (write sheet 0 (written q arcs)) sheet) e);
   back-refused = λ q arcs labels buffer i v c k d.
       let R = asked q arcs in

@@ -1,3 +1,4 @@
 pub mod HandNumbers
 pub mod Demands
 pub mod StandIns
+pub mod Cells

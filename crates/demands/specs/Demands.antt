@@ -21,8 +21,9 @@ use Rattle.route.specs.Walked.{RouteRead}
 use Rattle.route.specs.declared.Ending.the-variants as ending
 use Rattle.listing.specs.List.{asks, listingOf, listRows, listedOf, listingAfter}
 use Rattle.listing.specs.declared.Listed.the-variants as listed
-use Rattle.sheet.specs.Reader.{readerRows, readSays, arcsAfter}
-use Rattle.sheet.specs.Writer.{writerRows, writeSays, sheetAfter}
+use Rattle.sheet.specs.Grammar.{sheetOf}
+use Rattle.sheet.specs.Reader.{wordsOf, readerRows, readSays, arcsAfter}
+use Rattle.sheet.specs.Writer.{written, writerRows, writeSays, sheetAfter}
 use Rattle.sheet.specs.RoundTrip.{SameBytes, SameNumbers}
 use Rattle.table.specs.Build.{buildRows, builtOf, laddersAfter, labelsAfter}
 use Rattle.table.specs.declared.Built.the-variants as built
@@ -41,9 +42,13 @@ pub record Demand1 : Type 0 where
   -- the reader
   pub read-refused : (s arcs : List ℕ) (k : ℕ) → Decides (readerRows s (length arcs)) k
       → (readSays s (length arcs) ≡ row (readerRows s (length arcs)) k .number ∷ row (readerRows s (length arcs)) k .place ∷ []) × (arcsAfter s arcs ≡ arcs)
+  pub read-accepted : (s arcs : List ℕ) → NoneHolds (readerRows s (length arcs))
+      → (readSays s (length arcs) ≡ 0 ∷ 0 ∷ length (wordsOf (sheetOf s)) ∷ []) × (arcsAfter s arcs ≡ write arcs 0 (wordsOf (sheetOf s)))
   -- the writer
   pub write-refused : (q : Request) (arcs sheet : List ℕ) (k : ℕ) → Decides (writerRows q arcs (length sheet)) k
       → (writeSays q arcs (length sheet) ≡ row (writerRows q arcs (length sheet)) k .number ∷ row (writerRows q arcs (length sheet)) k .place ∷ []) × (sheetAfter q arcs sheet ≡ sheet)
+  pub write-accepted : (q : Request) (arcs sheet : List ℕ) → NoneHolds (writerRows q arcs (length sheet))
+      → (writeSays q arcs (length sheet) ≡ 0 ∷ 0 ∷ length (written q arcs) ∷ []) × (sheetAfter q arcs sheet ≡ write sheet 0 (written q arcs))
   -- the read-back, on any words for a table and any asked place
   pub back-refused : (q : Request) (arcs labels buffer : List ℕ) (i v c k : ℕ) → Decides (backRows (asked q arcs) labels (length buffer) i v c) k
       → (endingOf (asked q arcs) labels (length buffer) i v c
