@@ -10,7 +10,7 @@ use borrow.Author.Tests.{eq-eqb, ne-eqb, lt-ltb, le-ltb, eqb-true, eqb-false}
 use Rattle.words.specs.Loops.{total}
 use Rattle.words.proofs.Loops.{total-zero, total-next, total-le, below-next}
 use Rattle.rounds.specs.Rounds.{bit}
-use Rattle.rounds.specs.Settled.{Quiet, quiet}
+use Rattle.rounds.specs.Passing.{Quiet, quiet}
 use Rattle.rounds.proofs.Quiet.{quiet-is}
 use Rattle.rounds.proofs.Tries.{bit-le}
 use Rattle.keeping.specs.Kept.{stepIn, filledOf, Noted}

@@ -9,7 +9,7 @@ use Rattle.words.specs.Loops.{total}
 use Rattle.words.specs.Pieces.{part, at, join}
 use Rattle.rounds.specs.Label.{label}
 use Rattle.rounds.specs.Rounds.{bit}
-use Rattle.rounds.specs.Settled.{Quiet}
+use Rattle.rounds.specs.Passing.{Quiet}
 
 -- `keepCell`: a filled label kept, an empty one for an empty one
 unfoldable pub keepWords : ℕ → List ℕ → List ℕ

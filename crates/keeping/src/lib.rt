@@ -8,7 +8,7 @@ ghost use lib.Dec.{ltb, eqb};
 ghost use Rattle.words.specs.Pieces.{part, at, write, join};
 ghost use Rattle.rounds.specs.Label.{label};
 ghost use Rattle.rounds.specs.Rounds.{bit};
-ghost use Rattle.rounds.specs.Settled.{quiet};
+ghost use Rattle.rounds.specs.Passing.{quiet};
 ghost use Rattle.keeping.specs.Kept.{keepWords, keptBlock, Noted, Kept-in, Layers-in, NotedAll};
 
 // What is noted of a block: how many of its labels are filled, and a range of cells outside which all are empty or kept.

@@ -1,8 +1,8 @@
 -- The cell of a candidate, criterion by criterion. Assumes nothing.
 use Prim.Native.Nat.{ℕ, _+_, _-_, _*_, _≤_, _<_, zero-le}
-use mathlib.Core.Path.{_≡_, sym, ap₂, _∙_, subst}
+use mathlib.Core.Path.{_≡_, refl, sym, ap₂, _∙_, subst}
 use mathlib.Core.List.{List}
-use native.Mathlib.Nat.{le-refl, le-of-lt, not-suc-le-zero, mul-le-mul-right}
+use native.Mathlib.Nat.{le-of-lt, not-suc-le-zero, mul-le-mul-right}
 use native.Mathlib.Omega.{arith}
 use lib.ListN.{length, getD, set, length-set}
 use native.Mathlib.Decide.{ℕ-discrete}
@@ -17,16 +17,17 @@ use Rattle.fences.specs.Answer.{Slot}
 use Rattle.labels.specs.Words.{offset, ladderIn, Seeks}
 
 -- the criteria before j are found, and the hints of the others stand
-pub record Upto (counts : List ℕ) (graded : ℕ) (ladders cand places : List ℕ) (cell at j : ℕ) : Type 0 where
+pub record Upto (counts : List ℕ) (graded : ℕ) (ladders cand hint places : List ℕ) (cell at j : ℕ) : Type 0 where
   pub inside : j ≤ graded
   pub two : length places ≡ 2
   pub begins : at ≡ offset counts j
   pub slots : (i : ℕ) → i < j → Slot (ladderIn counts ladders i) (getD cand i 0) (getD places i 0)
   pub below : (i : ℕ) → i < graded → getD places i 0 < getD counts i 0
   pub number : cell ≡ radix (λ i. getD counts i 0) (λ i. getD places i 0) j
+  pub later : (i : ℕ) → j ≤ i → getD places i 0 ≡ getD hint i 0
 
 module _ (counts : List ℕ) (graded : ℕ) (ladders cand hint : List ℕ) (h : Seeks counts graded ladders cand hint) where
-  pub none-yet : Upto counts graded ladders cand hint 0 0 0
+  pub none-yet : Upto counts graded ladders cand hint hint 0 0 0
   unfolding offset
   none-yet = record {
     inside = zero-le;
@@ -35,9 +36,10 @@ module _ (counts : List ℕ) (graded : ℕ) (ladders cand hint : List ℕ) (h : 
     slots = λ i m. absurd (not-suc-le-zero m);
     below = h .hinted;
     number = sym (radix-zero (λ i. getD counts i 0) (λ i. getD hint i 0));
+    later = λ i _. refl;
   }
 
-  module _ (places : List ℕ) (cell at j : ℕ) (u : Upto counts graded ladders cand places cell at j) (l : j < graded) where
+  module _ (places : List ℕ) (cell at j : ℕ) (u : Upto counts graded ladders cand hint places cell at j) (l : j < graded) where
     offset-next : offset counts (j + 1) ≡ offset counts j + (getD counts j 0 + 1)
     unfolding offset
     offset-next = total-next (λ i. getD counts i 0 + 1) j
@@ -106,7 +108,7 @@ module _ (counts : List ℕ) (graded : ℕ) (ladders cand hint : List ℕ) (h : 
       new : getD (set places j found) j 0 ≡ found
       new = let t = u .two in let f = h .few in getD-set-same places j found 0 (omega arith)
 
-      pub one-more : Upto counts graded ladders cand (set places j found) (cell * getD counts j 0 + found) (at + getD counts j 0 + 1) (j + 1)
+      pub one-more : Upto counts graded ladders cand hint (set places j found) (cell * getD counts j 0 + found) (at + getD counts j 0 + 1) (j + 1)
       one-more = record {
         inside = omega arith;
         two = length-set places j found ∙ u .two;
@@ -118,32 +120,9 @@ module _ (counts : List ℕ) (graded : ℕ) (ladders cand hint : List ℕ) (h : 
         number =
             ap₂ (λ (x y : ℕ). x * getD counts j 0 + y) (u .number ∙ radix-ext (λ i. getD counts i 0) (λ i. getD places i 0) (λ i. getD (set places j found) i 0) j (λ i m. sym (kept i (λ q. absurd (omega arith))))) (sym new)
             ∙ sym (radix-next (λ i. getD counts i 0) (λ i. getD (set places j found) i 0) j);
+        later = λ i m. kept i (λ q. absurd (omega arith)) ∙ u .later i (omega arith);
       }
         where
           lower : (i : ℕ) → i < graded → Dec (i ≡ j) → getD (set places j found) i 0 < getD counts i 0
           lower i m (yes q) = rw (q, new) found-lt
           lower i m (no q) = rw (kept i q) (u .below i m)
-
--- ---- the places of a cell, by division
-
--- those from j on are within their counts
-pub record Digits (counts : List ℕ) (graded : ℕ) (places : List ℕ) (j : ℕ) : Type 0 where
-  pub inside : j ≤ graded
-  pub two : length places ≡ 2
-  pub below : (i : ℕ) → j ≤ i → i < graded → getD places i 0 < getD counts i 0
-
-pub none-divided : (counts : List ℕ) (graded : ℕ) (places : List ℕ) → length places ≡ 2 → Digits counts graded places graded
-none-divided counts graded places e = record { inside = le-refl graded; two = e; below = λ i l h. absurd (omega arith) }
-
--- place j - 1, a remainder
-pub one-divided : (counts : List ℕ) (graded : ℕ) (places : List ℕ) (j : ℕ) → Digits counts graded places j → graded ≤ 2 → 0 < j → (n : ℕ) → n < getD counts (j - 1) 0
-    → Digits counts graded (set places (j - 1) n) (j - 1)
-one-divided counts graded places j g few some n h = record {
-  inside = omega (arith, g .inside);
-  two = length-set places (j - 1) n ∙ g .two;
-  below = λ i l m. go i l m (ℕ-discrete i (j - 1));
-}
-  where
-    go : (i : ℕ) → j - 1 ≤ i → i < graded → Dec (i ≡ j - 1) → getD (set places (j - 1) n) i 0 < getD counts i 0
-    go i l m (yes e) = rw (e, getD-set-same places (j - 1) n 0 (omega (arith, g .two, g .inside))) h
-    go i l m (no f) = rw (getD-set-other places (j - 1) i n 0 f) (g .below i (omega arith) m)

@@ -47,3 +47,7 @@ pub record Found-at (counts : List ℕ) (graded : ℕ) (ladders cand : List ℕ)
   pub slot : (j : ℕ) → j < graded → Slot (ladderIn counts ladders j) (getD cand j 0) (getD places j 0)
   pub number : cell ≡ radix (λ i. getD counts i 0) (λ i. getD places i 0) graded
   pub below : (j : ℕ) → j < graded → getD places j 0 < getD counts j 0
+
+-- from place n on, the words of both are the same
+abbrev pub SameFrom : ℕ → List ℕ → List ℕ → Type 0
+SameFrom n xs ys = (j : ℕ) → n ≤ j → getD xs j 0 ≡ getD ys j 0

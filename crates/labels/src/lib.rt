@@ -3,10 +3,10 @@ use fences::seek;
 use words::copy;
 ghost use mathlib.Core.Path.{_≡_};
 ghost use mathlib.Core.Bool.{cond};
-ghost use Prim.Native.Nat.{ℕ, _+_, _≤_, _<_};
-ghost use lib.ListN.{length, getD, take, drop};
+ghost use Prim.Native.Nat.{ℕ, _+_, _≤_};
+ghost use lib.ListN.{length, take, drop};
 ghost use Rattle.rounds.specs.Label.{label, sum};
-ghost use Rattle.labels.specs.Words.{winsOver, Adds, Seeks, Found-at};
+ghost use Rattle.labels.specs.Words.{winsOver, Adds, Seeks, Found-at, SameFrom};
 
 // The candidate that a label's costs, an arc's costs and two words make.
 pub fn add_costs(out: &mut [u32], lab: &[u32], arc: &[u32], d: usize, step: u32, from: u32)
@@ -54,6 +54,7 @@ pub fn find_cell(
 ) -> usize
     requires { ⌜ Seeks counts graded (now ladders) (now cand) (now places) ⌝ }
     ensures { λ r. ⌜ Found-at counts graded (now (ladders .entry)) (now (cand .entry)) r (now (places .exit)) ⌝ }
+    ensures { λ _. ⌜ SameFrom graded (now (places .exit)) (now (places .entry)) ⌝ }
 {
     let mut cell: usize = 0;
     let mut at: usize = 0;
@@ -68,19 +69,4 @@ pub fn find_cell(
         j += 1;
     }
     cell
-}
-
-// The places whose number a cell is, found by division: where to look first for what its label makes.
-pub fn places_of(cell: usize, places: &mut [usize], counts: [usize; 2], graded: usize)
-    requires { ⌜ (graded ≤ 2) × (length (now places) ≡ 2) × ((j : ℕ) → j < graded → 0 < getD counts j 0) ⌝ }
-    ensures { λ _. ⌜ (length (now (places .exit)) ≡ 2) × ((j : ℕ) → j < graded → getD (now (places .exit)) j 0 < getD counts j 0) ⌝ }
-{
-    let mut rest = cell;
-    let mut j = graded;
-    while 0 < j {
-        j -= 1;
-        let size = counts[j];
-        places[j] = rest % size;
-        rest = rest / size;
-    }
 }

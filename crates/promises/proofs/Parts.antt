@@ -12,7 +12,6 @@ use Rattle.request.proofs.fill_ladders
 use Rattle.labels.proofs.add_costs
 use Rattle.labels.proofs.wins
 use Rattle.labels.proofs.place
-use Rattle.labels.proofs.keep
 use Rattle.tries.proofs.try_arc
 use Rattle.route.proofs.follow
 
@@ -46,11 +45,8 @@ wins-settled κs a x y v w ok p q = (agree p q, refl)
 pub place-settled : Settled place.Kinds.ps place.Kinds.r place.Reads.Asked place.Reads.Learnt
 place-settled κs a x y v w ok p q = (refl, lent (agree p q) refl)
 
-pub keep-settled : Settled keep.Kinds.ps keep.Kinds.r keep.Reads.Asked keep.Reads.Learnt
-keep-settled κs a x y v w ok p q = (refl, lent (agree p q) refl)
-
 pub try-arc-settled : Settled try_arc.Kinds.ps try_arc.Kinds.r try_arc.Reads.Asked try_arc.Reads.Learnt
-try-arc-settled κs a x y v w ok p q = (agree (p .1) (q .1), lent (agree (p .0) (q .0)) refl)
+try-arc-settled κs a x y v w ok p q = (refl, lent (agree p q) refl)
 
 pub follow-settled : Settled follow.Kinds.ps follow.Kinds.r follow.Reads.Asked follow.Reads.Learnt
 follow-settled κs a x y v w ok p q = (agree (p .0) (q .0), passed (passed (passed (passed (passed (passed (passed (lent (agree (p .1) (q .1)) refl))))))))

@@ -21,6 +21,13 @@ module _ {n : ℕ} (ps : List (PK n)) (r : RK n) where
   abbrev pub Settled : In n ps → Out n ps r → Type 0
   Settled = SettledAs (λ κs. resT r κs .Denot) (λ κs x. x)
 
+  -- of the last values, what is `seen` of them
+  abbrev pub SettledIn : (X : Type 0) → ((κs : Lfts n) (a : Dens κs ps) → Lasts (endedOf n ps r) κs a → X) → In n ps → Out n ps r → Type 0
+  SettledIn X seen asks promise =
+      (κs : Lfts n) (a : Dens κs ps) (x y : resT r κs .Denot) (v w : Lasts (endedOf n ps r) κs a) → asks κs a
+      → promise κs a x (atExit (endedOf n ps r) κs a v) → promise κs a y (atExit (endedOf n ps r) κs a w)
+      → seen κs a v ≡ seen κs a w
+
   -- every result that the promise allows has this property
   abbrev pub Promised : Out n ps r → ((κs : Lfts n) → Dens κs ps → resT r κs .Denot → Type 0) → Type 0
   Promised promise Has = (κs : Lfts n) (a : Dens κs ps) (x : resT r κs .Denot) (e : AtExit (endedOf n ps r) κs) → promise κs a x e → Has κs a x

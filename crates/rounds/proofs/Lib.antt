@@ -7,4 +7,4 @@ pub mod Costs
 pub mod Tries
 pub mod Table
 pub mod Quiet
-pub mod Settled
+pub mod Passing

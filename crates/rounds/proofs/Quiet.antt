@@ -7,7 +7,7 @@ use native.Mathlib.Omega.{arith}
 use lib.Dec.{eqb}
 use borrow.Author.Tests.{eqb-true, eqb-false}
 use Rattle.words.proofs.Choices.{true-is}
-use Rattle.rounds.specs.Settled.{Quiet, quiet}
+use Rattle.rounds.specs.Passing.{Quiet, quiet}
 
 -- what it passes is empty or kept
 pub quiet-is : (s : ℕ) → quiet s ≡ true → Quiet s

@@ -1,3 +1,3 @@
 pub mod Label
 pub mod Rounds
-pub mod Settled
+pub mod Passing

@@ -17,8 +17,8 @@ use Rattle.rounds.specs.Rounds.{block, keepAll, arcStep, round, roundTries, sta
 use Rattle.rounds.proofs.Round.{keepAll-length, round-length, layer-length}
 use Rattle.rounds.proofs.Start.{startLayer-length}
 use Rattle.rounds.proofs.Table.{table-length}
-use Rattle.rounds.specs.Settled.{Room, Settled}
-use Rattle.rounds.proofs.Settled.{layer-room, layer-settled}
+use Rattle.rounds.specs.Passing.{Room, AllTried}
+use Rattle.rounds.proofs.Passing.{layer-room, layer-tried}
 use Rattle.rounds.proofs.Ties.{Fair, Stays}
 use Rattle.table.specs.Build.{Layered, Notes}
 use Rattle.table.proofs.Passing.{layerWords}
@@ -131,7 +131,7 @@ module _ (R : Req) where
           ∙ ap (λ (b : ℕ). part (join (layer R) (i + 1)) b (layerWords R)) (g .begins)
           ∙ join-at (layerWords R) (layer R) (i + 1) (λ k _. layer-length R ok k) i (omega arith)
 
-      -- and leaves room for one arc more, and is settled
+      -- and leaves room for one arc more, and what it kept was tried
       pub next-layered : Fair (R .rule) (Stays (R .rule)) → Layered R ls base (base + layerWords R)
       unfolding reach
       next-layered fair =
@@ -141,7 +141,7 @@ module _ (R : Req) where
             below = omega arith;
             inside = omega arith;
             rooms = λ v hv. subst (λ (X : List ℕ). Room R (block R X v)) (sym layer-at) (layer-room R ok i v l hv);
-            settled = subst (Settled R) (sym layer-at) (layer-settled R ok fair i (omega arith));
+            tried = subst (AllTried R) (sym layer-at) (layer-tried R ok fair i (omega arith));
           }
 
       -- layer i + 1 joins them

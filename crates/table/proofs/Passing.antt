@@ -14,10 +14,10 @@ use Rattle.request.specs.Request.{Req, arcCount, tail, head}
 use Rattle.request.specs.Shape.{cells}
 use Rattle.request.specs.Accepted.{Regular}
 use Rattle.rounds.specs.Rounds.{span, block, keepAll, tryArc, arcStep, filledIn, roundTries}
-use Rattle.rounds.specs.Settled.{Room, Settled}
+use Rattle.rounds.specs.Passing.{Room, AllTried}
 use Rattle.rounds.proofs.Node.{tryArc-length}
 use Rattle.rounds.proofs.Tries.{filledIn-le}
-use Rattle.rounds.proofs.Settled.{round-tried}
+use Rattle.rounds.proofs.Passing.{round-tried}
 use Rattle.rounds.proofs.Ties.{Fair, Stays}
 use Rattle.tries.specs.Frame.{Apart, Ranged}
 use Rattle.table.specs.Build.{Layered, Notes}
@@ -41,7 +41,7 @@ layered-later R xs ls cur prev base p e = record {
   below = p .below;
   inside = (let i = p .inside in let n = ap length e ∙ length-write xs base cur in omega arith);
   rooms = λ v h. subst (λ (L : List ℕ). Room R (block R L v)) (sym same) (p .rooms v h);
-  settled = subst (Settled R) (sym same) (p .settled);
+  tried = subst (AllTried R) (sym same) (p .tried);
 }
   where
     same : part ls prev (layerWords R) ≡ part xs prev (layerWords R)
@@ -131,7 +131,7 @@ module _ (R : Req) (xs : List ℕ) (prev base : ℕ) where
             inside = omega arith;
             room = subst (Room R) (sym tail-block) (later .rooms (tail R a) (ok .tail-in a in-a));
             tried = rw (tail-before, head-now kept)
-                (round-tried R ok fair (part xs prev (layerWords R)) (length-part xs prev (layerWords R) (omega (arith, p))) (p .rooms) (p .settled) a (omega arith) a in-a);
+                (round-tried R ok fair (part xs prev (layerWords R)) (length-part xs prev (layerWords R) (omega (arith, p))) (p .rooms) (p .tried) a (omega arith) a in-a);
           }
 
       -- and its tries are a step of the round

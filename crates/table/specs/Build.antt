@@ -15,7 +15,7 @@ use Rattle.request.specs.declared.Request.{Request}
 use Rattle.request.specs.declared.Shape.{Shape}
 use Rattle.tries.specs.declared.Frame.{Frame}
 use Rattle.rounds.specs.Rounds.{span, block, filledIn, table, tries}
-use Rattle.rounds.specs.Settled.{Room, Settled}
+use Rattle.rounds.specs.Passing.{Room, AllTried}
 use Rattle.tries.specs.Frame.{Ranged}
 use Rattle.table.specs.declared.Built.{Built}
 use Rattle.table.specs.declared.Built.the-variants as built
@@ -58,12 +58,12 @@ ladderWords b1 b2 graded = total (λ j. getD (b1 ∷ b2 ∷ []) j 0 + 1) graded
 unfoldable pub startWords : ℕ → ℕ → Bool → List ℕ
 startWords n d here = cond here (set (replicate n 0) d 1) (replicate n 0)
 
--- the layer before ends at or before the layer that is written begins, leaves room for one arc more, and is settled
+-- the layer before ends at or before the layer that is written begins, leaves room for one arc more, and what it kept was tried
 pub record Layered (R : Req) (labels : List ℕ) (prev base : ℕ) : Type 0 where
   pub below : prev + R .nodes * span R ≤ base
   pub inside : base + R .nodes * span R ≤ length labels
   pub rooms : (v : ℕ) → v < R .nodes → Room R (block R (part labels prev (R .nodes * span R)) v)
-  pub settled : Settled R (part labels prev (R .nodes * span R))
+  pub tried : AllTried R (part labels prev (R .nodes * span R))
 
 -- what is noted of each node of layer L: its filled cells, and the range of those that are neither empty nor kept
 pub record Notes (R : Req) (L filled lows highs : List ℕ) : Type 0 where

@@ -90,8 +90,9 @@ fn try_arcs(
     while a < m {
         let at = a * w;
         let tail = arcs[at] as usize;
+        let head = arcs[at + 1] as usize;
         let from = prev + block_at(s, tail);
-        let to = base + block_at(s, arcs[at + 1] as usize);
+        let to = base + block_at(s, head);
         tries += filled[tail];
         try_arc(
             labels,

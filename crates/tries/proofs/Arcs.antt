@@ -15,9 +15,9 @@ use Rattle.request.specs.Accepted.{Regular}
 use Rattle.request.proofs.Tops.{buckets-pos}
 use Rattle.rounds.specs.Rounds.{span, tryCell, tryArc}
 use Rattle.rounds.specs.Label.{step}
-use Rattle.rounds.specs.Settled.{Room, Tried, Quiet}
+use Rattle.rounds.specs.Passing.{Room, Tried, Quiet}
 use Rattle.rounds.proofs.Node.{tryCell-length}
-use Rattle.rounds.proofs.Settled.{some-tried, quiet-cells}
+use Rattle.rounds.proofs.Passing.{some-tried, quiet-cells}
 use Rattle.rounds.proofs.Ties.{Fair, Stays}
 use Rattle.tries.specs.declared.Frame.{Frame}
 use Rattle.tries.specs.Frame.{Framed, Apart, Ranged, Hinted, Fresh}

@@ -11,7 +11,7 @@ use borrow.Author.Tests.{eq-eqb, ne-eqb}
 use Rattle.words.specs.Pieces.{at}
 use Rattle.words.proofs.Loops.{below-next}
 use Rattle.words.proofs.Pieces.{piece-end, piece-word}
-use Rattle.rounds.specs.Settled.{Quiet, quiet}
+use Rattle.rounds.specs.Passing.{Quiet, quiet}
 use Rattle.rounds.proofs.Quiet.{quiet-is, loud-full}
 use Rattle.tries.specs.Frame.{Fresh}
 

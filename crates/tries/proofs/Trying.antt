@@ -18,7 +18,7 @@ use Rattle.request.proofs.Tops.{arc-le, top-le, cost-at}
 use Rattle.request.proofs.Cells.{cell-ext}
 use Rattle.rounds.specs.Label.{label, sum, costs, step, filled, candidate, came, wins}
 use Rattle.rounds.specs.Rounds.{span, offer, tryCell}
-use Rattle.rounds.specs.Settled.{Room}
+use Rattle.rounds.specs.Passing.{Room}
 use Rattle.rounds.proofs.Labels.{getD-sum, came-length, came-costs, cost-word}
 use Rattle.labels.specs.Words.{winsOver, Found-at}
 use Rattle.tries.specs.declared.Frame.{Frame}

@@ -11,7 +11,7 @@ use Rattle.request.specs.Shape.{buckets, cells, ladders}
 use Rattle.request.specs.Accepted.{Regular, Small, Fits}
 use Rattle.rounds.specs.Label.{label, sum, step}
 use Rattle.rounds.specs.Rounds.{span}
-use Rattle.rounds.specs.Settled.{Room, Tried, Quiet}
+use Rattle.rounds.specs.Passing.{Room, Tried, Quiet}
 use Rattle.labels.specs.Words.{winsOver, Seeks}
 use Rattle.tries.specs.declared.Frame.{Frame}
 

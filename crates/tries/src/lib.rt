@@ -2,7 +2,6 @@
 use labels::add_costs;
 use labels::find_cell;
 use labels::place;
-use labels::places_of;
 use request::Request;
 ghost use mathlib.Core.Path.{_≡_};
 ghost use Prim.Native.Nat.{ℕ, _+_, _-_, _*_, _≤_, _<_};
@@ -11,7 +10,7 @@ ghost use Rattle.words.specs.Pieces.{part, write};
 ghost use Rattle.request.specs.Request.{asked, arcCount};
 ghost use Rattle.labels.specs.Words.{Seeks, Found-at};
 ghost use Rattle.rounds.specs.Rounds.{span, tryArc};
-ghost use Rattle.rounds.specs.Settled.{quiet};
+ghost use Rattle.rounds.specs.Passing.{quiet};
 ghost use Rattle.words.specs.Radix.{volume};
 ghost use Rattle.tries.specs.Frame.{offered, extended, Sized, Extends, Framed, Apart, Ranged, Fresh};
 
@@ -96,6 +95,21 @@ fn extend(
         c as u32,
     );
     offer_found(labels, &cand[..w], ladders, places, s, to)
+}
+
+// The places whose number a cell is, found by division: where to look first for what its label makes.
+fn places_of(cell: usize, places: &mut [usize], counts: [usize; 2], graded: usize)
+    requires { ⌜ (graded ≤ 2) × (length (now places) ≡ 2) × ((j : ℕ) → j < graded → 0 < getD counts j 0) ⌝ }
+    ensures { λ _. ⌜ (length (now (places .exit)) ≡ 2) × ((j : ℕ) → j < graded → getD (now (places .exit)) j 0 < getD counts j 0) ⌝ }
+{
+    let mut rest = cell;
+    let mut j = graded;
+    while 0 < j {
+        j -= 1;
+        let size = counts[j];
+        places[j] = rest % size;
+        rest = rest / size;
+    }
 }
 
 // Whether a step word says empty or kept.

@@ -12,7 +12,7 @@ use Rattle.labels.proofs.find_cell.Statement.{statement}
 use Rattle.labels.proofs.find_cell.Tie as tie
 
 abbrev Inv-loop : tie.InvT-loop
-Inv-loop cand ladders places₀ graded counts cell₀ at₀ j₀ places cell at j = Upto counts graded ladders cand places cell at j
+Inv-loop cand ladders places₀ graded counts cell₀ at₀ j₀ places cell at j = Upto counts graded ladders cand places₀ places cell at j
 
 abbrev μ-loop : tie.MeasureT-loop
 μ-loop cand ladders places₀ graded counts cell₀ at₀ j₀ places cell at j = graded - j
@@ -188,13 +188,15 @@ returns c =
     let p = c .before .before .before .before .before .pre in
     let l = c .before .loop in
     let u = l .inv in
-    let e : l .j ≡ a .graded = omega (arith, u .inside) in
-    record {
-      two = u .two;
-      slot = λ j m. u .slots j (rw e m);
-      number = u .number ∙ ap (radix (λ i. getD (a .t4) i 0) (λ i. getD (l .places) i 0)) e;
-      below = u .below;
-    }
+    let e : l .j ≡ a .graded = omega (arith, u .inside) in (
+      record {
+        two = u .two;
+        slot = λ j m. u .slots j (rw e m);
+        number = u .number ∙ ap (radix (λ i. getD (a .t4) i 0) (λ i. getD (l .places) i 0)) e;
+        below = u .below;
+      },
+      λ j h. u .later j (omega (arith, e)),
+    )
 
 pub find-cell-spec : {M : Type 1} → statement M
 find-cell-spec =

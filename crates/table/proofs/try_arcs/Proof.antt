@@ -1,5 +1,5 @@
 -- `try_arcs`. The loop's invariant: the arcs before a are passed (`Along`). Assumes nothing.
-use mathlib.Core.Path.{_≡_, sym, ap, _∙_}
+use mathlib.Core.Path.{_≡_, ap}
 use Prim.Native.Nat.{ℕ, _+_, _-_, _/_, _≤_}
 use native.Mathlib.Nat.{mul-le-mul}
 use lib.ListN.{length, getD}
@@ -65,53 +65,53 @@ cast-tail c =
     let x = here (s .s) (s .arcs .now) (s .ladders .now) (p .0) (l .a) (c .before .loop-test .taken) in
     omega (arith, x)
 
-block-at-requires : tie.Need-block-at-requires Inv-loop μ-loop
-block-at-requires c κs =
+add-head : tie.Need-add-head Inv-loop μ-loop
+add-head c =
     let s = c .before .before .before .before .before .before .before .before .before .args in
     let p = c .before .before .before .before .before .before .before .before .before .pre in
     let l = c .before .before .loop in
     let x = here (s .s) (s .arcs .now) (s .ladders .now) (p .0) (l .a) (c .before .loop-test .taken) in
     omega (arith, x)
 
+mul-head : tie.Need-mul-head Inv-loop μ-loop
+mul-head c =
+    let s = c .before .before .before .before .before .before .before .before .before .args in
+    let p = c .before .before .before .before .before .before .before .before .before .pre in
+    let l = c .before .before .loop in
+    let x = here (s .s) (s .arcs .now) (s .ladders .now) (p .0) (l .a) (c .before .loop-test .taken) in
+    omega (arith, x)
+
+shared-slice-read-head : tie.Need-shared-slice-read-head Inv-loop μ-loop
+shared-slice-read-head c =
+    let s = c .before .before .before .before .before .before .before .before .before .before .args in
+    let p = c .before .before .before .before .before .before .before .before .before .before .pre in
+    let l = c .before .before .before .loop in
+    let x = here (s .s) (s .arcs .now) (s .ladders .now) (p .0) (l .a) (c .before .before .loop-test .taken) in
+    omega (arith, x)
+
+cast-head : tie.Need-cast-head Inv-loop μ-loop
+cast-head c =
+    let s = c .before .before .before .before .before .before .before .before .before .before .args in
+    let p = c .before .before .before .before .before .before .before .before .before .before .pre in
+    let l = c .before .before .before .loop in
+    let x = here (s .s) (s .arcs .now) (s .ladders .now) (p .0) (l .a) (c .before .before .loop-test .taken) in
+    omega (arith, x)
+
+block-at-requires : tie.Need-block-at-requires Inv-loop μ-loop
+block-at-requires c κs =
+    let s = c .before .before .before .before .before .before .before .before .before .before .args in
+    let p = c .before .before .before .before .before .before .before .before .before .before .pre in
+    let l = c .before .before .before .loop in
+    let x = here (s .s) (s .arcs .now) (s .ladders .now) (p .0) (l .a) (c .before .before .loop-test .taken) in
+    omega (arith, x)
+
 add-from : tie.Need-add-from Inv-loop μ-loop
 add-from c =
-    let s = c .before .before .before .before .before .before .before .before .before .before .args in
-    let p = c .before .before .before .before .before .before .before .before .before .before .pre in
-    let l = c .before .before .before .loop in
-    let x = here (s .s) (s .arcs .now) (s .ladders .now) (p .0) (l .a) (c .before .before .loop-test .taken) in
+    let s = c .before .before .before .before .before .before .before .before .before .before .before .args in
+    let p = c .before .before .before .before .before .before .before .before .before .before .before .pre in
+    let l = c .before .before .before .before .loop in
+    let x = here (s .s) (s .arcs .now) (s .ladders .now) (p .0) (l .a) (c .before .before .before .loop-test .taken) in
     omega (arith, x, p .1 .0, along-length (asked (s .s .request) (s .arcs .now)) (s .labels .now) (s .prev) (s .base) (p .0 .regular) (p .1 .0) (l .labels) (l .tries) (l .a) (l .inv), c .block-at .ensures)
-
-add-block-at : tie.Need-add-block-at Inv-loop μ-loop
-add-block-at c =
-    let s = c .before .before .before .before .before .before .before .before .before .before .args in
-    let p = c .before .before .before .before .before .before .before .before .before .before .pre in
-    let l = c .before .before .before .loop in
-    let x = here (s .s) (s .arcs .now) (s .ladders .now) (p .0) (l .a) (c .before .before .loop-test .taken) in
-    omega (arith, x)
-
-mul-block-at : tie.Need-mul-block-at Inv-loop μ-loop
-mul-block-at c =
-    let s = c .before .before .before .before .before .before .before .before .before .before .args in
-    let p = c .before .before .before .before .before .before .before .before .before .before .pre in
-    let l = c .before .before .before .loop in
-    let x = here (s .s) (s .arcs .now) (s .ladders .now) (p .0) (l .a) (c .before .before .loop-test .taken) in
-    omega (arith, x)
-
-shared-slice-read-block-at : tie.Need-shared-slice-read-block-at Inv-loop μ-loop
-shared-slice-read-block-at c =
-    let s = c .before .before .before .before .before .before .before .before .before .before .before .args in
-    let p = c .before .before .before .before .before .before .before .before .before .before .before .pre in
-    let l = c .before .before .before .before .loop in
-    let x = here (s .s) (s .arcs .now) (s .ladders .now) (p .0) (l .a) (c .before .before .before .loop-test .taken) in
-    omega (arith, x)
-
-cast-block-at : tie.Need-cast-block-at Inv-loop μ-loop
-cast-block-at c =
-    let s = c .before .before .before .before .before .before .before .before .before .before .before .args in
-    let p = c .before .before .before .before .before .before .before .before .before .before .before .pre in
-    let l = c .before .before .before .before .loop in
-    let x = here (s .s) (s .arcs .now) (s .ladders .now) (p .0) (l .a) (c .before .before .before .loop-test .taken) in
-    omega (arith, x)
 
 block-at-requires-2 : tie.Need-block-at-requires-2 Inv-loop μ-loop
 block-at-requires-2 c κs =
@@ -195,8 +195,16 @@ try-arc-requires c κs =
     let s = c .before .before .before .before .before .before .before .before .before .before .before .before .before .before .before .before .args in
     let p = c .before .before .before .before .before .before .before .before .before .before .before .before .before .before .before .before .pre in
     let l = c .before .before .before .before .before .before .before .before .before .loop in
-    let x = here (s .s) (s .arcs .now) (s .ladders .now) (p .0) (l .a) (c .before .before .before .before .before .before .before .before .loop-test .taken) in
-    (p .0, (arc-apart (asked (s .s .request) (s .arcs .now)) (s .labels .now) (s .prev) (s .base) (p .0 .regular) (p .1 .0) (l .labels) (l .tries) (l .a) (l .inv) (x .index) (s .prev + c .before .before .before .before .before .before .block-at .result) (s .base + c .before .before .before .before .block-at2 .result) (omega (arith, x, c .before .before .before .before .before .before .block-at .ensures)) (omega (arith, x, c .before .before .before .before .block-at2 .ensures)) (lower-stays (s .s .request .criteria)) (p .1 .1 .0), (x .index, tail-range (asked (s .s .request) (s .arcs .now)) (s .labels .now) (s .prev) (s .base) (p .0 .regular) (p .1 .0) (l .labels) (l .tries) (l .a) (l .inv) (x .index) (s .prev + c .before .before .before .before .before .before .block-at .result) (s .base + c .before .before .before .before .block-at2 .result) (omega (arith, x, c .before .before .before .before .before .before .block-at .ensures)) (omega (arith, x, c .before .before .before .before .block-at2 .ensures)) (s .filled .now) (s .lows .now) (s .highs .now) (p .1 .1 .1) _ _ (ap (λ (v : ℕ). getD (s .lows .now) v 0) (x .tail-is)) (ap (λ (v : ℕ). getD (s .highs .now) v 0) (x .tail-is)))))
+    let x = here (s .s) (s .arcs .now) (s .ladders .now) (p .0) (l .a) (c .before .before .before .before .before .before .before .before .loop-test .taken) in (
+      p .0,
+      (
+        arc-apart (asked (s .s .request) (s .arcs .now)) (s .labels .now) (s .prev) (s .base) (p .0 .regular) (p .1 .0) (l .labels) (l .tries) (l .a) (l .inv) (x .index) (s .prev + c .before .before .before .before .before .block-at .result) (s .base + c .before .before .before .before .block-at2 .result) (omega (arith, x, c .before .before .before .before .before .block-at .ensures)) (omega (arith, x, c .before .before .before .before .block-at2 .ensures)) (lower-stays (s .s .request .criteria)) (p .1 .1 .0),
+        (
+          x .index,
+          tail-range (asked (s .s .request) (s .arcs .now)) (s .labels .now) (s .prev) (s .base) (p .0 .regular) (p .1 .0) (l .labels) (l .tries) (l .a) (l .inv) (x .index) (s .prev + c .before .before .before .before .before .block-at .result) (s .base + c .before .before .before .before .block-at2 .result) (omega (arith, x, c .before .before .before .before .before .block-at .ensures)) (omega (arith, x, c .before .before .before .before .block-at2 .ensures)) (s .filled .now) (s .lows .now) (s .highs .now) (p .1 .1 .1) _ _ (ap (λ (v : ℕ). getD (s .lows .now) v 0) (x .tail-is)) (ap (λ (v : ℕ). getD (s .highs .now) v 0) (x .tail-is)),
+        ),
+      ),
+    )
 
 add-a : tie.Need-add-a Inv-loop μ-loop
 add-a c =
@@ -221,7 +229,8 @@ loop-again c =
     let l = c .before .before .before .before .before .before .before .before .before .before .before .before .loop in
     let x = here (s .s) (s .arcs .now) (s .ladders .now) (p .0) (l .a) (c .before .before .before .before .before .before .before .before .before .before .before .loop-test .taken) in
     let made = c .before .before .try-arc in
-    one-arc (asked (s .s .request) (s .arcs .now)) (s .labels .now) (s .prev) (s .base) (p .0 .regular) (p .1 .0) (l .labels) (l .tries) (l .a) (l .inv) (x .index) (s .prev + c .before .before .before .before .before .before .before .before .before .block-at .result) (s .base + c .before .before .before .before .before .before .before .block-at2 .result) (omega (arith, x, c .before .before .before .before .before .before .before .before .before .block-at .ensures)) (omega (arith, x, c .before .before .before .before .before .before .before .block-at2 .ensures)) (made .last .0) _ (made .ensures) (tail-count (asked (s .s .request) (s .arcs .now)) (s .labels .now) (s .prev) (s .base) (p .0 .regular) (p .1 .0) (l .labels) (l .tries) (l .a) (l .inv) (x .index) (s .prev + c .before .before .before .before .before .before .before .before .before .block-at .result) (s .base + c .before .before .before .before .before .before .before .block-at2 .result) (omega (arith, x, c .before .before .before .before .before .before .before .before .before .block-at .ensures)) (omega (arith, x, c .before .before .before .before .before .before .before .block-at2 .ensures)) (s .filled .now) (s .lows .now) (s .highs .now) (p .1 .1 .1) _ (ap (λ (v : ℕ). getD (s .filled .now) v 0) (x .tail-is)))
+    one-arc (asked (s .s .request) (s .arcs .now)) (s .labels .now) (s .prev) (s .base) (p .0 .regular) (p .1 .0) (l .labels) (l .tries) (l .a) (l .inv) (x .index) (s .prev + c .before .before .before .before .before .before .before .before .block-at .result) (s .base + c .before .before .before .before .before .before .before .block-at2 .result) (omega (arith, x, c .before .before .before .before .before .before .before .before .block-at .ensures)) (omega (arith, x, c .before .before .before .before .before .before .before .block-at2 .ensures)) (made .last .0) _ (made .ensures)
+    (tail-count (asked (s .s .request) (s .arcs .now)) (s .labels .now) (s .prev) (s .base) (p .0 .regular) (p .1 .0) (l .labels) (l .tries) (l .a) (l .inv) (x .index) (s .prev + c .before .before .before .before .before .before .before .before .block-at .result) (s .base + c .before .before .before .before .before .before .before .block-at2 .result) (omega (arith, x, c .before .before .before .before .before .before .before .before .block-at .ensures)) (omega (arith, x, c .before .before .before .before .before .before .before .block-at2 .ensures)) (s .filled .now) (s .lows .now) (s .highs .now) (p .1 .1 .1) _ (ap (λ (v : ℕ). getD (s .filled .now) v 0) (x .tail-is)))
 
 same-length : tie.Need-same-length Inv-loop μ-loop
 same-length c =
@@ -237,8 +246,10 @@ returns c =
     let l = c .before .loop in
     let R = asked (s .s .request) (s .arcs .now) in
     let m = arc-count (s .s) (s .arcs .now) (s .ladders .now) (p .0) in
-    let e : l .a ≡ arcCount R = omega (arith, l .inv .inside) in
-    (all-words R (s .labels .now) (s .prev) (s .base) (l .labels) (l .tries) (l .a) (l .inv) e, all-tries R (s .labels .now) (s .prev) (s .base) (l .labels) (l .tries) (l .a) (l .inv) e)
+    let e : l .a ≡ arcCount R = omega (arith, l .inv .inside) in (
+      all-words R (s .labels .now) (s .prev) (s .base) (l .labels) (l .tries) (l .a) (l .inv) e,
+      all-tries R (s .labels .now) (s .prev) (s .base) (l .labels) (l .tries) (l .a) (l .inv) e,
+    )
 
 pub try-arcs-spec : {M : Type 1} → statement M
 try-arcs-spec =
@@ -252,12 +263,12 @@ try-arcs-spec =
     mul-tail
     shared-slice-read-tail
     cast-tail
+    add-head
+    mul-head
+    shared-slice-read-head
+    cast-head
     block-at-requires
     add-from
-    add-block-at
-    mul-block-at
-    shared-slice-read-block-at
-    cast-block-at
     block-at-requires-2
     add-to
     mul-tries

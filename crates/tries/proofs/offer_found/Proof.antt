@@ -17,7 +17,7 @@ offer-requires : tie.Need-offer-requires
 offer-requires c κs =
     let a = c .before .before .before .before .before .before .before .before .before .before .before .args in
     let p = c .before .before .before .before .before .before .before .before .before .before .before .pre in
-    let f = c .before .before .before .find-cell .ensures in
+    let f = c .before .before .before .find-cell .ensures .0 in
     let v = p .1 .1 .0 in
     let e = f .number in
     let l = radix-lt (λ i. getD (a .s .counts) i 0) (λ i. getD (c .before .before .before .find-cell .last .1 .1 .0) i 0) (a .s .d - 1) (f .below) in
@@ -30,7 +30,7 @@ same-length-2 : tie.Need-same-length-2
 same-length-2 c = search needs
 
 returns : tie.Need-returns
-returns c = (c .before .before .offer .ensures, c .before .before .before .before .before .before .find-cell .ensures)
+returns c = (c .before .before .offer .ensures, c .before .before .before .before .before .before .find-cell .ensures .0)
 
 pub offer-found-spec : {M : Type 1} → statement M
 offer-found-spec =

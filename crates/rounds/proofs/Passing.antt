@@ -1,4 +1,4 @@
--- Every layer is settled: layer 0 keeps nothing, and a round settles the layer that it makes. In a round over a settled layer a try of a kept label
+-- What a layer kept was tried already: layer 0 keeps nothing, and a round tries what it keeps. So in the next round a try of a kept label
 -- changes nothing. The proof in words stands above the definitions. Assumes nothing.
 use Prim.Native.Nat.{ℕ, zero, suc, _+_, _*_, _≤_, _<_}
 use mathlib.Core.Path.{_≡_, refl, sym, ap, ap₂, _∙_, subst}
@@ -22,7 +22,7 @@ use Rattle.request.proofs.Cells.{UnderTop, cell-lt}
 use Rattle.request.proofs.Tops.{arc-le}
 use Rattle.rounds.specs.Label.{label, costs, step, filled, start, kept, sum, candidate, came, wins}
 use Rattle.rounds.specs.Rounds.{span, block, startBlock, startLayer, keepBlock, keepAll, offer, tryCell, arcStep, round, layer, labelOf, labelAt}
-use Rattle.rounds.specs.Settled.{Room, Taken, Tried, Settled, Quiet}
+use Rattle.rounds.specs.Passing.{Room, Taken, Tried, AllTried, Quiet}
 use Rattle.rounds.proofs.Costs.{layer-costs, room-for-arc}
 use Rattle.rounds.proofs.Labels.{getD-sum, step-label, costs-length, kept-costs}
 use Rattle.rounds.proofs.Start.{start-block, start-label, start-only}
@@ -111,7 +111,7 @@ same-cand : (R : Req) (a : ℕ) (l l′ : List ℕ) → costs R l ≡ costs R l�
 unfolding candidate
 same-cand R a l l′ e = ap (λ (xs : List ℕ). sum xs (arcCosts R a)) e
 
--- ---- in a round over a settled layer, before each arc
+-- ---- in a round over a layer whose kept labels were tried, before each arc
 
 module _ (R : Req) (ok : Regular R) (fair : Fair (R .rule) (Stays (R .rule))) (L : List ℕ) (whole : length L ≡ R .nodes * span R)
     (rooms : (v : ℕ) → v < R .nodes → Room R (block R L v)) where
@@ -122,14 +122,14 @@ module _ (R : Req) (ok : Regular R) (fair : Fair (R .rule) (Stays (R .rule))) (L
   in-cell a c in-a in-c t = room-cell R ok (Tail a) (rooms (tail R a) (ok .tail-in a in-a)) a c in-a in-c t
 
   -- THE KEPT LABELS OF ITS TAIL WERE TRIED
-  pub round-tried : Settled R L → (m : ℕ) → m ≤ arcCount R → (a : ℕ) → a < arcCount R → Tried R (Tail a) a (block R (upTo (arcStep R L) (keepAll R L) m) (head R a))
-  unfolding Settled Tried
-  round-tried settled m h a in-a c in-c e =
+  pub round-tried : AllTried R L → (m : ℕ) → m ≤ arcCount R → (a : ℕ) → a < arcCount R → Tried R (Tail a) a (block R (upTo (arcStep R L) (keepAll R L) m) (head R a))
+  unfolding AllTried Tried
+  round-tried tried m h a in-a c in-c e =
       let size = arcs-sized R ok L whole a in-a in
       good-taken R ok fair (Tail a) size a c in-a in-c (block R (upTo (arcStep R L) (keepAll R L) m) (head R a))
       (some-good R ok L whole (Stays (R .rule)) fair m h (head R a) (cell R (cand R (Tail a) a c)) (ok .head-in a in-a)
       (in-cell a c in-a in-c (step-filled R (at (width R) (Tail a) c) e)) (cand R (Tail a) a c)
-      (taken-good R ok fair (Tail a) size a c in-a in-c (block R L (head R a)) (settled a in-a c in-c e)))
+      (taken-good R ok fair (Tail a) size a c in-a in-c (block R L (head R a)) (tried a in-a c in-c e)))
 
   -- ---- a label that a round kept has its costs from the layer before
 
@@ -155,10 +155,10 @@ module _ (R : Req) (ok : Regular R) (fair : Fair (R .rule) (Stays (R .rule))) (L
           let s = ap (step R) same ∙ came-step R ok (Tail a) (arcs-sized R ok L whole a in-a) a f in-a in-f in
           absurd (omega arith)
 
-  -- A ROUND SETTLES THE LAYER THAT IT MAKES
-  pub round-settled : Settled R (round R L)
-  unfolding Settled Tried
-  round-settled a in-a c in-c e =
+  -- A ROUND TRIES WHAT IT KEEPS
+  pub round-leaves-tried : AllTried R (round R L)
+  unfolding AllTried Tried
+  round-leaves-tried a in-a c in-c e =
       let F′ : List ℕ = block R (round R L) (tail R a) in
       let old = kept-old (tail R a) c (ok .tail-in a in-a) in-c e in
       let same : cand R (Tail a) a c ≡ cand R F′ a c = same-cand R a (at (width R) (Tail a) c) (at (width R) F′ c) (sym (old .1)) in
@@ -169,9 +169,9 @@ module _ (R : Req) (ok : Regular R) (fair : Fair (R .rule) (Stays (R .rule))) (L
 -- ---- every layer
 
 -- a start is not kept
-start-settled : (R : Req) → Regular R → Settled R (startLayer R)
-unfolding Settled Tried start
-start-settled R ok a in-a c in-c e =
+start-tried : (R : Req) → Regular R → AllTried R (startLayer R)
+unfolding AllTried Tried start
+start-tried R ok a in-a c in-c e =
     let v = tail R a in
     let b = start-block R v (ok .tail-in a in-a) in
     let t = subst (λ (B : List ℕ). T (filled R (at (width R) B c))) b (step-filled R (at (width R) (block R (startLayer R) v) c) e) in
@@ -183,8 +183,8 @@ start-settled R ok a in-a c in-c e =
     ∙ step-label R (replicate (R .criteria) 0) 1 0 (length-replicate (R .criteria) 0) in
     absurd (omega arith)
 
--- EVERY LAYER IS SETTLED
-pub layer-settled : (R : Req) → Regular R → Fair (R .rule) (Stays (R .rule)) → (i : ℕ) → i ≤ reach R → Settled R (layer R i)
+-- SO EVERY LAYER'S KEPT LABELS WERE TRIED
+pub layer-tried : (R : Req) → Regular R → Fair (R .rule) (Stays (R .rule)) → (i : ℕ) → i ≤ reach R → AllTried R (layer R i)
 unfolding layer
-layer-settled R ok fair zero h = start-settled R ok
-layer-settled R ok fair (suc i) h = round-settled R ok fair (layer R i) (layer-length R ok i) (λ v hv. layer-room R ok i v h hv)
+layer-tried R ok fair zero h = start-tried R ok
+layer-tried R ok fair (suc i) h = round-leaves-tried R ok fair (layer R i) (layer-length R ok i) (λ v hv. layer-room R ok i v h hv)

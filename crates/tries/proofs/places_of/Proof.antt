@@ -1,10 +1,10 @@
 -- `places_of`. The loop's invariant: the places from j on are within their counts (`Digits`). Assumes nothing.
 use native.Mathlib.Nat.{mod-lt}
-use Rattle.labels.proofs.Finding.{Digits, none-divided, one-divided}
+use Rattle.tries.proofs.Digits.{Digits, none-divided, one-divided}
 use borrow.Author.Needs.{needs}
 use native.Mathlib.Omega.{arith}
-use Rattle.labels.proofs.places_of.Statement.{statement}
-use Rattle.labels.proofs.places_of.Tie as tie
+use Rattle.tries.proofs.places_of.Statement.{statement}
+use Rattle.tries.proofs.places_of.Tie as tie
 
 abbrev Inv-loop : tie.InvT-loop
 Inv-loop cell places₀ graded counts rest₀ j₀ places rest j = Digits counts graded places j

@@ -31,8 +31,8 @@ unfoldable pub Tried : Req → List ℕ → ℕ → List ℕ → Type 0
 Tried R F a B = (c : ℕ) → c < cells R → step R (at (width R) F c) ≡ 2 → Taken R F a c B
 
 -- and so it is in layer L along every arc
-unfoldable pub Settled : Req → List ℕ → Type 0
-Settled R L = (a : ℕ) → a < arcCount R → Tried R (block R L (tail R a)) a (block R L (head R a))
+unfoldable pub AllTried : Req → List ℕ → Type 0
+AllTried R L = (a : ℕ) → a < arcCount R → Tried R (block R L (tail R a)) a (block R L (head R a))
 
 -- a step word that says empty or kept: a try of its label is no news
 abbrev pub Quiet : ℕ → Type 0
