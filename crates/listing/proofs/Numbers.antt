@@ -6,8 +6,7 @@ use native.Mathlib.Nat.{add-zero}
 use native.Mathlib.Omega.{arith}
 use lib.ListN.{length, take, drop, set, length-set}
 use Rattle.words.specs.Pieces.{part, write}
-use Rattle.words.proofs.Writes.{length-part, length-write, lent, write-nest, write-append}
-use Rattle.text.proofs.Fields.{set-write, write-none}
+use Rattle.words.proofs.Writes.{length-part, length-write, lent, write-nest, write-append, set-write, write-none}
 
 -- a word stored right before others
 before : (xs : List ℕ) (a v : ℕ) (ys : List ℕ) → write (write xs (suc a) ys) a (v ∷ []) ≡ write xs a (v ∷ ys)

@@ -9,7 +9,7 @@ use lib.ListN.{length, getD, take, drop, set, drop-of-length-le}
 use lib.Seq.{take-suc-set, length-take-le}
 use borrow.Author.Tests.{lt-ltb, le-ltb, eq-eqb, ne-eqb}
 use Rattle.words.specs.Pieces.{write}
-use Rattle.words.proofs.Writes.{write-front, front-more}
+use Rattle.words.proofs.Writes.{write-front, front-more, write-none}
 use Rattle.text.specs.declared.Number.{Number}
 use Rattle.text.specs.declared.Item.the-variants.{Found, Wrong}
 use Rattle.text.specs.declared.Line.{Line}
@@ -17,7 +17,7 @@ use Rattle.text.specs.declared.Line.the-variants.{Good, Bad}
 use Rattle.text.specs.Field.{before, common}
 use Rattle.text.specs.Number.{number}
 use Rattle.text.specs.Line.{Got, good, bad, placed, item, prepend, numbers, lineOf, answerOf, takenOf}
-use Rattle.text.proofs.Fields.{drop-next, write-none}
+use Rattle.text.proofs.Fields.{drop-next}
 
 -- ---- one item, at byte `at`
 

@@ -6,10 +6,10 @@ use native.Mathlib.Omega.{arith}
 use lib.ListN.{length, getD, take, drop, set, length-append, take-append-drop}
 use lib.Seq.{length-take-le}
 use Rattle.words.specs.Pieces.{write}
-use Rattle.words.proofs.Writes.{write-append}
+use Rattle.words.proofs.Writes.{write-append, set-write, write-none}
 use Rattle.text.specs.Number.{digits}
 use Rattle.text.specs.Line.{parted, partedWidth, lineText}
-use Rattle.text.proofs.Fields.{take-next, set-write, write-none}
+use Rattle.text.proofs.Fields.{take-next}
 use Rattle.text.proofs.Digits.{digits-small, digits-more}
 
 -- ---- one byte

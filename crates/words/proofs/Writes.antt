@@ -176,9 +176,10 @@ copy-more s d i hs hd =
     front-more (take i s) d i (getD s i 0) (length-take-le i s (omega arith)) hd
     ∙ ap (λ (r : List ℕ). r ++ drop (i + 1) d) (sym (take-suc s i 0 hs) ∙ ap (λ (k : ℕ). take k s) (sym (add-one i)))
 
--- ---- single words
+-- ---- no word, and single words
 
-write-none : (xs : List ℕ) (a : ℕ) → write xs a [] ≡ xs
+-- a write of nothing
+pub write-none : (xs : List ℕ) (a : ℕ) → write xs a [] ≡ xs
 unfolding write
 write-none [] a = refl
 write-none (x ∷ xs) zero = refl

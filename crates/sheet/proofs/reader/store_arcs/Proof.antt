@@ -5,9 +5,9 @@ use native.Mathlib.Omega.{arith}
 use lib.ListN.{length, take}
 use borrow.Author.Needs.{needs}
 use Rattle.words.specs.Pieces.{write}
-use Rattle.words.proofs.Writes.{length-write}
+use Rattle.words.proofs.Writes.{length-write, write-none}
 use Rattle.text.specs.Field.{before}
-use Rattle.text.proofs.Fields.{write-none, rest-is}
+use Rattle.text.proofs.Fields.{rest-is}
 use Rattle.sheet.specs.Grammar.{lf, arcWord, sheetOf}
 use Rattle.sheet.specs.Rendering.{Sheetable}
 use Rattle.sheet.specs.Reader.{wordsOf}
