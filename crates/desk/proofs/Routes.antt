@@ -8,14 +8,13 @@ use lib.ListN.{length, length-append}
 use lib.Dec.{T, eqb, leb, ltb, nltb→le}
 use Rattle.words.specs.Rows.{Weighed, clear, refused, weigh}
 use Rattle.words.proofs.Rows.{weigh-clear-front}
-use Rattle.words.proofs.Choices.{cond-cases}
+use Rattle.words.proofs.Choices.{cond-cases, nor-left}
 use Rattle.request.specs.declared.Request.{Request}
 use Rattle.request.specs.Request.{Req, asked, tail, reach}
 use Rattle.request.specs.Shape.{cells}
 use Rattle.request.specs.Rows.{rows}
 use Rattle.request.specs.Accepted.{Accepted}
 use Rattle.request.proofs.Accepted.{accepted-small}
-use Rattle.request.proofs.Tests.{nor-left}
 use Rattle.rounds.specs.Label.{step, from}
 use Rattle.route.specs.Chain.{labelIn, Chain, whole, broken, push, startHolds, keptHolds, arcHolds, chainIn, chain}
 use Rattle.route.specs.Answer.{breakLayer, arcsOf, backRows, refusal, ended, endingOf}

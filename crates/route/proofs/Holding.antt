@@ -8,11 +8,11 @@ use native.Mathlib.Omega.{arith}
 use lib.ListN.{length, getD, replicate, List·getD-eq-default}
 use lib.Dec.{T, leb, ltb, eqb, leb→le, ltb→lt, eqb→eq}
 use borrow.Author.Tests.{eq-eqb, lt-ltb, le-leb}
+use Rattle.words.proofs.Choices.{or-right}
 use Rattle.request.specs.Request.{Req, arcCount, head, arcCosts}
 use Rattle.request.specs.Shape.{cells}
 use Rattle.rounds.specs.Label.{costs, step, from, filled, sum}
 use Rattle.route.specs.Chain.{same, startHolds, agrees, keptHolds, arcHolds}
-use Rattle.request.proofs.Tests.{or-right}
 use Rattle.route.proofs.Comparing.{same-equal, same-self}
 
 -- ---- tests

@@ -13,15 +13,17 @@ use borrow.Author.Tests.{eqb-true}
 use Rattle.words.specs.Pieces.{write}
 use Rattle.words.specs.Rows.{Weighed, clear, refused, weigh, row, Decides, NoneHolds, settle}
 use Rattle.words.proofs.Rows.{weigh-clear-front, weigh-clear-back, clear-cons, refused-decides, decides-refused, none-clear, clear-none}
+use Rattle.words.proofs.Choices.{or-neither, nor-left}
 use Rattle.request.specs.Request.{Req, width, reach}
 use Rattle.request.specs.Shape.{cells, labelCount}
 use Rattle.request.specs.Rows.{rows}
 use Rattle.request.specs.Accepted.{Accepted, Regular}
 use Rattle.request.specs.declared.Refusal.{Refusal}
 use Rattle.request.proofs.Accepted.{accepted-regular}
-use Rattle.request.proofs.Tests.{or-neither, nor-left, lt-fails, le-fails}
+use Rattle.request.proofs.Tests.{lt-fails, le-fails}
 use Rattle.rounds.specs.Label.{costs, step, filled}
 use Rattle.rounds.specs.Rounds.{table, labelAt}
+use Rattle.rounds.proofs.Table.{table-length}
 use Rattle.cover.specs.Cover.{route}
 use Rattle.route.specs.Chain.{labelIn, Chain, whole, broken, chain}
 use Rattle.route.specs.Answer.{breaks, arcsOf, backRows, refusal, ended, endingOf, costsAfter, routeAfter}
@@ -29,7 +31,7 @@ use Rattle.route.specs.Walked.{Walked, Sound, RouteRead, Fronts}
 use Rattle.route.specs.declared.Ending.the-variants as ending
 use Rattle.route.proofs.Sound.{chain-sound}
 use Rattle.route.proofs.Answering.{empty-cell, chain-broken, chain-whole, three, none, route-all}
-use Rattle.route.proofs.Tables.{table-long, label-in, table-whole}
+use Rattle.route.proofs.Tables.{label-in, table-whole}
 
 -- ---- an ending tells how the rows were weighed
 
@@ -200,7 +202,7 @@ module _ (R : Req) (ok : Accepted R) (W buffer : List ℕ) (front : Fronts R W) 
   long-enough =
       let n = ap length front in
       let m = length-take (length (table R)) W in
-      let e = table-long R regular in
+      let e = table-length R regular in
       let x = mul-assoc (R .hops + 1) (R .nodes * cells R) (width R) in
       let y : (R .hops + 1) * (R .nodes * cells R * width R) ≡ (R .hops + 1) * (R .nodes * (cells R * width R)) = ap (λ (k : ℕ). (R .hops + 1) * k) (mul-assoc (R .nodes) (cells R) (width R)) in
       omega arith

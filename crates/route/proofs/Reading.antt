@@ -9,7 +9,7 @@ use lib.ListN.{length, getD, take, length-take, List·getD-eq-default}
 use lib.Dec.{T, leb, ltb, nltb→le}
 use Rattle.words.specs.Pieces.{at, write}
 use Rattle.words.specs.Rows.{clear, refused, weigh}
-use Rattle.words.proofs.Choices.{true-is, false-is}
+use Rattle.words.proofs.Choices.{true-is, false-is, nor-left}
 use Rattle.words.proofs.Writes.{write-part}
 use Rattle.request.specs.Request.{Req, asked, width, reach}
 use Rattle.request.specs.Shape.{cells, labelCount}
@@ -18,7 +18,6 @@ use Rattle.request.specs.Answer.{shapeOf}
 use Rattle.request.specs.declared.Request.{Request}
 use Rattle.request.specs.declared.Shape.{Shape}
 use Rattle.request.proofs.Accepted.{accepted-regular, accepted-small, accepted-fits}
-use Rattle.request.proofs.Tests.{nor-left}
 use Rattle.rounds.specs.Label.{costs, step}
 use Rattle.route.specs.Chain.{labelIn, Chain, whole, broken, chain}
 use Rattle.route.specs.Links.{Within, trailOf}

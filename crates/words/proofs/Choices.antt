@@ -1,6 +1,6 @@
--- What holds of both sides of a choice holds of the choice. Assumes nothing.
+-- What holds of both sides of a choice holds of the choice; tests as facts, and either of two tests. Assumes nothing.
 use mathlib.Core.Path.{_≡_, refl, sym, subst}
-use mathlib.Core.Bool.{Bool, true, false, cond, not}
+use mathlib.Core.Bool.{Bool, true, false, cond, not, _||_}
 use lib.Dec.{T}
 
 -- by cases, each side knowing how the test came out
@@ -33,3 +33,28 @@ true-is e = subst T (sym e) tt
 
 pub false-is : {b : Bool} → b ≡ false → T (not b)
 false-is e = subst (λ (t : Bool). T (not t)) (sym e) tt
+
+-- ---- either of two tests
+
+-- the first holds, or the second
+pub or-left : (x y : Bool) → T x → T (x || y)
+or-left true y t = tt
+or-left false y t = absurd t
+
+pub or-right : (x y : Bool) → T y → T (x || y)
+or-right true y t = tt
+or-right false y t = t
+
+-- neither of them does
+pub or-neither : (x y : Bool) → T (not x) → T (not y) → T (not (x || y))
+or-neither true y t u = absurd t
+or-neither false y t u = u
+
+-- and back
+pub nor-left : (x y : Bool) → T (not (x || y)) → T (not x)
+nor-left true y t = t
+nor-left false y t = tt
+
+pub nor-right : (x y : Bool) → T (not (x || y)) → T (not y)
+nor-right true y t = absurd t
+nor-right false y t = t

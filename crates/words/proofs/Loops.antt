@@ -1,7 +1,7 @@
 -- What a loop keeps, what one of its steps sets and the others keep, what it sums and tests. Assumes nothing.
 use Prim.Native.Nat.{ℕ, zero, suc, _+_, _*_, _≤_, _<_, zero-le}
 use mathlib.Core.Path.{_≡_, refl, sym, ap, _∙_, subst}
-use mathlib.Core.Bool.{Bool, true, false, not, _||_}
+use mathlib.Core.Bool.{Bool, false, not, _||_}
 use mathlib.Core.Logic.{⊎-elim}
 use lib.Dec.{T}
 use native.Mathlib.Nat.{le-refl, not-suc-le-zero, eq-or-lt-of-le, le-of-suc-le-suc, le-step, suc-mul}
@@ -9,6 +9,7 @@ use native.Mathlib.Numerals.{add-one}
 use native.Mathlib.Decide.{le-ind}
 use native.Mathlib.Omega.{arith}
 use Rattle.words.specs.Loops.{upTo, total, any}
+use Rattle.words.proofs.Choices.{or-left, or-right, or-neither, nor-left, nor-right}
 
 -- ---- one step more
 
@@ -85,26 +86,6 @@ unfolding total
 total-ext f g n h = upTo-ext (λ k t. t + f k) (λ k t. t + g k) 0 n (λ j t l. ap (λ (x : ℕ). t + x) (h j l))
 
 -- ---- tests
-
-or-right : (x y : Bool) → T y → T (x || y)
-or-right true y t = tt
-or-right false y t = t
-
-or-left : (x y : Bool) → T x → T (x || y)
-or-left true y t = tt
-or-left false y t = absurd t
-
-or-neither : (x y : Bool) → T (not x) → T (not y) → T (not (x || y))
-or-neither true y t u = absurd t
-or-neither false y t u = u
-
-nor-left : (x y : Bool) → T (not (x || y)) → T (not x)
-nor-left true y t = t
-nor-left false y t = tt
-
-nor-right : (x y : Bool) → T (not (x || y)) → T (not y)
-nor-right true y t = absurd t
-nor-right false y t = t
 
 -- one that passes is enough
 pub any-one : (f : ℕ → Bool) (n k : ℕ) → k < n → T (f k) → T (any f n)
