@@ -1,14 +1,13 @@
 -- The lines of a listing: a label's, where it is filled and where it is empty, and how long they are. Assumes nothing.
-use Prim.Native.Nat.{ℕ, _+_, _≤_, _<_}
-use mathlib.Core.Path.{_≡_, refl, sym, ap, _∙_}
-use mathlib.Core.Bool.{Bool, true, false, not}
+use Prim.Native.Nat.{ℕ, _≤_, _<_}
+use mathlib.Core.Path.{_≡_, refl, ap, _∙_}
+use mathlib.Core.Bool.{true, false}
 use mathlib.Core.List.{List, [], _∷_}
 use native.Mathlib.Omega.{arith}
 use lib.ListN.{length, take, length-append}
 use Rattle.words.specs.Pieces.{write}
 use Rattle.words.proofs.Writes.{part-write-same}
-use Rattle.text.specs.Line.{partedWidth, lineText}
-use Rattle.text.proofs.Puts.{parted-width, line-length}
+use Rattle.text.specs.Line.{lineText}
 use Rattle.request.specs.declared.Request.{Request}
 use Rattle.request.specs.Request.{Req, asked}
 use Rattle.sheet.specs.Grammar.{tab}
@@ -19,20 +18,6 @@ use Rattle.listing.specs.Print.{Tabled}
 use Rattle.listing.proofs.Chains.{chain-short}
 use Rattle.listing.proofs.Places.{costs-long}
 use Rattle.listing.specs.Listing.{labelWord, lastLabel, lastRoute, filledAt, labelNumbers, labelLine}
-
--- a line's length: its word, its numbers and its LF
-pub line-wide : (word vs : List ℕ) → length (lineText tab word vs) ≡ length word + partedWidth vs + 1
-line-wide word vs = line-length tab word vs ∙ ap (λ (k : ℕ). length word + k + 1) (parted-width tab vs)
-
--- a test, of one that came out otherwise
-pub not-true : (b : Bool) → not b ≡ true → b ≡ false
-not-true true e = sym e
-not-true false e = refl
-
--- and the other way round
-pub not-false : (b : Bool) → not b ≡ false → b ≡ true
-not-false true e = refl
-not-false false e = sym e
 
 module _ (R : Req) (W : List ℕ) (v c : ℕ) where
   -- an empty label counts for nothing and has no line

@@ -103,19 +103,17 @@ module _ (R : Req) where
       at j (yes l) h = u .done j l ∙ sym (count-in j l)
       at j (no l) h = u .rest j (omega arith) h ∙ sym (count-out j (omega arith))
 
+  -- one base alone
+  volume-one : volume (buckets R) 1 ≡ buckets R 0
+  volume-one = volume-next (buckets R) 0 ∙ ap (λ (x : ℕ). x * buckets R 0) (volume-zero (buckets R)) ∙ one-mul (buckets R 0)
+
   -- C is their product, and each is within 1 to 4,096
   pub cells-counts : (R .graded ≡ 1) ⊎ (R .graded ≡ 2) → cells R ≡ count R 0 * count R 1
   unfolding cells
   cells-counts (inl e) =
-      ap (volume (buckets R)) e ∙ one ∙ sym (mul-one (buckets R 0)) ∙ ap₂ (λ (x y : ℕ). x * y) (sym (count-in 0 (omega arith))) (sym (count-out 1 (omega arith)))
-    where
-      one : volume (buckets R) 1 ≡ buckets R 0
-      one = volume-next (buckets R) 0 ∙ ap (λ (x : ℕ). x * buckets R 0) (volume-zero (buckets R)) ∙ one-mul (buckets R 0)
+      ap (volume (buckets R)) e ∙ volume-one ∙ sym (mul-one (buckets R 0)) ∙ ap₂ (λ (x y : ℕ). x * y) (sym (count-in 0 (omega arith))) (sym (count-out 1 (omega arith)))
   cells-counts (inr e) =
-      ap (volume (buckets R)) e ∙ volume-next (buckets R) 1 ∙ ap (λ (x : ℕ). x * buckets R 1) one ∙ ap₂ (λ (x y : ℕ). x * y) (sym (count-in 0 (omega arith))) (sym (count-in 1 (omega arith)))
-    where
-      one : volume (buckets R) 1 ≡ buckets R 0
-      one = volume-next (buckets R) 0 ∙ ap (λ (x : ℕ). x * buckets R 0) (volume-zero (buckets R)) ∙ one-mul (buckets R 0)
+      ap (volume (buckets R)) e ∙ volume-next (buckets R) 1 ∙ ap (λ (x : ℕ). x * buckets R 1) volume-one ∙ ap₂ (λ (x y : ℕ). x * y) (sym (count-in 0 (omega arith))) (sym (count-in 1 (omega arith)))
 
   pub count-few : weigh (each (bucketRow R) (R .graded)) ≡ clear → (j : ℕ) → count R j ≤ 4096
   count-few e j = at (decLt j (R .graded))

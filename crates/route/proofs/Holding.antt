@@ -1,14 +1,14 @@
 -- What a start, a kept label and an arc label are that hold, fact by fact; and each test from its facts. Assumes nothing.
 use Prim.Native.Nat.{ℕ, _≤_, _<_}
 use mathlib.Core.Path.{_≡_, refl, sym, subst}
-use mathlib.Core.Bool.{Bool, true, false, not, _||_, _&&_}
+use mathlib.Core.Bool.{Bool, true, false, not, _&&_}
 use mathlib.Core.List.{List}
 use native.Mathlib.Nat.{lt-of-not-le}
 use native.Mathlib.Omega.{arith}
 use lib.ListN.{length, getD, replicate, List·getD-eq-default}
 use lib.Dec.{T, leb, ltb, eqb, leb→le, ltb→lt, eqb→eq}
 use borrow.Author.Tests.{eq-eqb, lt-ltb, le-leb}
-use Rattle.words.proofs.Choices.{or-right}
+use Rattle.words.proofs.Choices.{or-right, or-implies}
 use Rattle.request.specs.Request.{Req, arcCount, head, arcCosts}
 use Rattle.request.specs.Shape.{cells}
 use Rattle.rounds.specs.Label.{costs, step, from, filled, sum}
@@ -39,10 +39,6 @@ all6 : (a b c d e f : Bool) → T (a && b && c && d && e && f) → T a × T b ×
 all6 true b c d e f t = let p = all5 b c d e f t in (tt, p .0, p .1, p .2, p .3, p .4)
 all6 false b c d e f t = absurd t
 
-if-filled : (a b : Bool) → T (not a || b) → T a → T b
-if-filled true b t u = t
-if-filled false b t u = absurd u
-
 -- a bound passed is not kept
 pub not-under : {x y : ℕ} → x ≤ y → y < x → ⊥
 not-under h g = omega arith
@@ -56,7 +52,7 @@ word-inside l n h = lt-of-not-le (λ (g : length l ≤ n). h (List·getD-eq-defa
 module _ (R : Req) (xs reached ys : List ℕ) where
   pub agree-facts : T (agrees R xs reached ys) → T (filled R reached) → xs ≡ ys
   unfolding agrees
-  agree-facts t u = same-equal xs ys (if-filled (filled R reached) (same xs ys) t u)
+  agree-facts t u = same-equal xs ys (or-implies (filled R reached) (same xs ys) t u)
 
   -- an empty label agrees with anything
   pub agree-empty : step R reached ≡ 0 → true ≡ agrees R xs reached ys

@@ -1,10 +1,9 @@
 -- What a reader may take from a read-back's answer: a route is a walk with exactly the answered costs, on any label buffer; on the table of the
 -- build every filled label answers its route; each refusal, and the empty cell, is answered exactly when its row decides. Assumes nothing.
-use Prim.Native.Nat.{ℕ, _+_, _*_, _≤_, _<_}
+use Prim.Native.Nat.{ℕ, _*_, _≤_, _<_}
 use mathlib.Core.Path.{_≡_, refl, sym, ap, _∙_, subst}
 use mathlib.Core.Bool.{Bool, true, false, cond, not, _||_}
 use mathlib.Core.List.{List}
-use native.Mathlib.Nat.{mul-assoc}
 use native.Mathlib.Decide.{ℕ-discrete}
 use native.Mathlib.Omega.{arith}
 use lib.ListN.{length, length-take}
@@ -23,7 +22,7 @@ use Rattle.request.proofs.Accepted.{accepted-regular}
 use Rattle.request.proofs.Tests.{lt-fails, le-fails}
 use Rattle.rounds.specs.Label.{costs, step, filled}
 use Rattle.rounds.specs.Rounds.{table, labelAt}
-use Rattle.rounds.proofs.Table.{table-length}
+use Rattle.rounds.proofs.Table.{table-words}
 use Rattle.cover.specs.Cover.{route}
 use Rattle.route.specs.Chain.{labelIn, Chain, whole, broken, chain}
 use Rattle.route.specs.Answer.{breaks, arcsOf, backRows, refusal, ended, endingOf, costsAfter, routeAfter}
@@ -36,7 +35,7 @@ use Rattle.route.proofs.Tables.{label-in, table-whole}
 -- ---- an ending tells how the rows were weighed
 
 -- a refusal is no route
-no-route : (n p k : ℕ) → refusal n p ≡ ending.Route k → ⊥
+pub no-route : (n p k : ℕ) → refusal n p ≡ ending.Route k → ⊥
 unfolding refusal
 no-route n p k = go (eqb n 15)
   where
@@ -198,14 +197,8 @@ module _ (R : Req) (ok : Accepted R) (W buffer : List ℕ) (front : Fronts R W) 
   regular = accepted-regular R ok
 
   long-enough : labelCount R * width R ≤ length W
-  unfolding Fronts labelCount
-  long-enough =
-      let n = ap length front in
-      let m = length-take (length (table R)) W in
-      let e = table-length R regular in
-      let x = mul-assoc (R .hops + 1) (R .nodes * cells R) (width R) in
-      let y : (R .hops + 1) * (R .nodes * cells R * width R) ≡ (R .hops + 1) * (R .nodes * (cells R * width R)) = ap (λ (k : ℕ). (R .hops + 1) * k) (mul-assoc (R .nodes) (cells R) (width R)) in
-      omega arith
+  unfolding Fronts
+  long-enough = omega (arith, table-words R regular, ap length front, length-take (length (table R)) W)
 
   filled-in : step R (labelIn R W i v c) ≡ 0 → ⊥
   unfolding filled

@@ -62,7 +62,8 @@ module _ (q : Request) (arcs : List ℕ) (acc : Accepted (asked q arcs)) (s : Sh
   pub cells-is : s .cells ≡ cells (asked q arcs)
   cells-is = ap (λ (x : Shape). x .cells) e
 
-  words-is : s .labels * (q .criteria + 2) ≡ labelCount (asked q arcs) * width (asked q arcs)
+  -- so many words has the table
+  pub words-is : s .labels * (q .criteria + 2) ≡ labelCount (asked q arcs) * width (asked q arcs)
   words-is = ap (λ (x : Shape). x .labels * (q .criteria + 2)) e
 
   pub words-fit : s .labels * (q .criteria + 2) ≤ 5242880

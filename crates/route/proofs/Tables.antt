@@ -9,7 +9,7 @@ use lib.ListN.{length, replicate, length-replicate}
 use lib.Dec.{T, not-T}
 use Rattle.words.specs.Pieces.{part, at, write}
 use Rattle.words.proofs.Choices.{is-true}
-use Rattle.words.proofs.Pieces.{at-length, piece-end, join-at, at-at}
+use Rattle.words.proofs.Pieces.{piece-end, join-at, at-at}
 use Rattle.words.proofs.Writes.{part-part, part-write-same}
 use Rattle.request.specs.Request.{Req, width, arcCount, tail, head, arcCosts, reach}
 use Rattle.request.specs.Shape.{cells}
@@ -23,7 +23,7 @@ use Rattle.rounds.proofs.Round.{layer-length, keep-at, keep-filled, origin}
 use Rattle.rounds.proofs.Table.{table-length}
 use Rattle.cover.specs.Cover.{route}
 use Rattle.cover.proofs.Routes.{route-kept, route-arc}
-use Rattle.cover.proofs.Sound.{label-long}
+use Rattle.cover.proofs.Sound.{label-long, block-whole}
 use Rattle.route.specs.Chain.{labelIn, whole, push, startHolds, keptHolds, arcHolds, chain}
 use Rattle.route.specs.Walked.{Fronts}
 use Rattle.route.specs.declared.Link.the-variants as link
@@ -148,7 +148,7 @@ module _ (R : Req) (ok : Regular R) where
         go : Origin R (λ a. block R (layer R i) (tail R a)) v (keepBlock R (block R (layer R i) v)) c (labelAt R (suc i) v c)
             → ((u f : ℕ) → u < R .nodes → f < cells R → T (filled R (labelAt R i u f)) → chain R W i u f ≡ whole (route R i u f)) → chain R W (suc i) v c ≡ whole (route R (suc i) v c)
         go (of-old u e) rec =
-            let w = at-length (span R) (layer R i) (R .nodes) (layer-length R ok i) v hv in
+            let w = block-whole R ok i v hv in
             let t′ = keep-filled R (block R (layer R i) v) w c hc u in
             let e′ : labelAt R (suc i) v c ≡ kept R (labelAt R i v c) = e ∙ keep-at R (block R (layer R i) v) w c hc t′ in
             keeps i v c hi hv hc e′ ∙ rec v c hv hc t′ ∙ ap whole (sym (route-kept R i v c (labelAt R i v c) (label-long R ok i v c hv hc) e′))

@@ -198,6 +198,10 @@ width-small n h = rw (digits-small n h)
 pub width-more : (n : ℕ) → 10 ≤ n → length (digits n) ≡ length (digits (n / 10)) + 1
 width-more n h = rw (digits-more n h, length-append)
 
+-- below 10 one digit
+pub width-one : (n : ℕ) → n < 10 → length (digits n) ≤ 1
+width-one n h = omega (arith, width-small n h)
+
 -- one digit more for a bound ten times as large
 pub width-within : (k b : ℕ) → ((n : ℕ) → n < b → length (digits n) ≤ k) → (n : ℕ) → n < b * 10 → length (digits n) ≤ suc k
 width-within k b h n l =
@@ -209,8 +213,5 @@ width-word n l =
     width-within 9 1000000000
     (width-within 8 100000000
     (width-within 7 10000000
-    (width-within 6 1000000 (width-within 5 100000 (width-within 4 10000 (width-within 3 1000 (width-within 2 100 (width-within 1 10 one))))))))
+    (width-within 6 1000000 (width-within 5 100000 (width-within 4 10000 (width-within 3 1000 (width-within 2 100 (width-within 1 10 width-one))))))))
     n (omega arith)
-  where
-    one : (n : ℕ) → n < 10 → length (digits n) ≤ 1
-    one n s = omega (arith, width-small n s)

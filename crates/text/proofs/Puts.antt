@@ -105,6 +105,10 @@ unfolding parted partedWidth
 parted-width sep [] = refl
 parted-width sep (v ∷ vs) = ap suc (length-append (digits v) (parted sep vs) ∙ ap (λ (k : ℕ). length (digits v) + k) (parted-width sep vs)) ∙ omega arith
 
+-- so a line takes its word, its numbers and its LF
+pub line-width : (sep : ℕ) (w vs : List ℕ) → length (lineText sep w vs) ≡ length w + partedWidth vs + 1
+line-width sep w vs = line-length sep w vs ∙ ap (λ (k : ℕ). length w + k + 1) (parted-width sep vs)
+
 -- none of them
 pub width-none : (vs : List ℕ) → partedWidth (take 0 vs) ≡ 0
 unfolding partedWidth

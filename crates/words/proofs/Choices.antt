@@ -34,6 +34,15 @@ true-is e = subst T (sym e) tt
 pub false-is : {b : Bool} → b ≡ false → T (not b)
 false-is e = subst (λ (t : Bool). T (not t)) (sym e) tt
 
+-- a test whose opposite came out false, and one whose opposite came out true
+pub not-false : (b : Bool) → not b ≡ false → b ≡ true
+not-false true e = refl
+not-false false e = sym e
+
+pub not-true : (b : Bool) → not b ≡ true → b ≡ false
+not-true true e = sym e
+not-true false e = refl
+
 -- ---- either of two tests
 
 -- the first holds, or the second
@@ -58,3 +67,8 @@ nor-left false y t = tt
 pub nor-right : (x y : Bool) → T (not (x || y)) → T (not y)
 nor-right true y t = absurd t
 nor-right false y t = t
+
+-- where the first holds, the second does
+pub or-implies : (x y : Bool) → T (not x || y) → T x → T y
+or-implies true y t u = t
+or-implies false y t u = absurd u

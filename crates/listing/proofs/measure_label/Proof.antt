@@ -6,10 +6,13 @@ use native.Mathlib.Omega.{arith}
 use lib.ListN.{length, take, replicate, length-replicate}
 use borrow.Author.Needs.{needs}
 use Rattle.words.proofs.Writes.{length-write}
+use Rattle.words.proofs.Choices.{not-true, not-false}
 use Rattle.text.specs.Line.{partedWidth}
+use Rattle.text.proofs.Puts.{line-width}
 use Rattle.request.specs.Request.{asked}
+use Rattle.sheet.specs.Grammar.{tab}
 use Rattle.listing.specs.Listing.{labelWord, labelNumbers}
-use Rattle.listing.proofs.Lines.{line-wide, not-true, not-false, empty-label, filled-label, few-numbers, numbers-front}
+use Rattle.listing.proofs.Lines.{empty-label, filled-label, few-numbers, numbers-front}
 use Rattle.listing.proofs.measure_label.Statement.{statement}
 use Rattle.listing.proofs.measure_label.Tie as tie
 
@@ -84,7 +87,7 @@ returns-2 c =
     let a = s .args in
     let h = filled-label (asked (a .request) (a .arcs .now)) (a .labels .now) (a .node) (a .cell) (sym (c .before .before .before .before .before .before .is-filled .ensures) ∙ not-false (c .before .before .before .before .before .before .is-filled .result) (c .before .before .before .before .before .if1 .left)) in
     let w = c .widths .ensures .0 ∙ ap partedWidth (front k) in
-    ((h .0, omega arith), (omega (arith, w, line-wide labelWord (numbers-of k), ap length (h .1)), omega (arith, few k, ap length (front k), c .widths .ensures .1)))
+    ((h .0, omega arith), (omega (arith, w, line-width tab labelWord (numbers-of k), ap length (h .1)), omega (arith, few k, ap length (front k), c .widths .ensures .1)))
 
 pub measure-label-spec : {M : Type 1} → statement M
 measure-label-spec = tie.close (tie.spec is-filled-requires returns slice-aggregate-label-numbers label-numbers-requires array-share-prefix-numbers slice-aggregate-widths widths-requires add-t16 returns-2)

@@ -7,11 +7,12 @@ use lib.ListN.{length, take, replicate, length-replicate}
 use borrow.Author.Needs.{needs}
 use Rattle.words.specs.Pieces.{write}
 use Rattle.words.proofs.Writes.{length-write, write-none}
+use Rattle.words.proofs.Choices.{not-true, not-false}
 use Rattle.text.specs.Line.{lineText}
 use Rattle.request.specs.Request.{asked}
 use Rattle.sheet.specs.Grammar.{tab}
 use Rattle.listing.specs.Listing.{labelWord, labelNumbers, labelLine}
-use Rattle.listing.proofs.Lines.{not-true, not-false, empty-label, filled-label, few-numbers, numbers-front}
+use Rattle.listing.proofs.Lines.{empty-label, filled-label, few-numbers, numbers-front}
 use Rattle.listing.proofs.put_label.Statement.{statement}
 use Rattle.listing.proofs.put_label.Tie as tie
 

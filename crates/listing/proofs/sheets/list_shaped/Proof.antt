@@ -11,12 +11,13 @@ use Rattle.request.specs.Shape.{ladders, labelCount}
 use Rattle.rounds.specs.Rounds.{table, tries}
 use Rattle.table.specs.declared.Built.the-variants as built
 use Rattle.table.specs.Build.{builtOf}
+use Rattle.route.proofs.Reading.{words-is}
 use Rattle.listing.specs.declared.Listed.the-variants as listed
 use Rattle.listing.specs.Listing.{listingText}
 use Rattle.listing.specs.Print.{printedOf, bytesAfter, Tabled}
 use Rattle.listing.specs.List.{listingOf}
 use Rattle.listing.proofs.Rooms.{ladders-few, tries-few}
-use Rattle.listing.proofs.Requests.{lists-many, lists-printed, build-refused, build-tries, build-words, words-are, tabled, table-front}
+use Rattle.listing.proofs.Requests.{lists-many, lists-printed, build-refused, build-tries, build-words, tabled, table-front}
 use Rattle.listing.proofs.sheets.list_shaped.Statement.{statement}
 use Rattle.listing.proofs.sheets.list_shaped.Tie as tie
 
@@ -62,7 +63,7 @@ module _ (c : tie.After-build) where
 
     -- so do the table's words
     few : start-of .args .shape .labels * (start-of .args .request .criteria + 2) ≤ 12288
-    few = omega (arith, fits, words-are (start-of .args .request) (start-of .args .arcs .now) (start-of .pre .0) (start-of .args .shape) (start-of .pre .1))
+    few = omega (arith, fits, words-is (start-of .args .request) (start-of .args .arcs .now) (start-of .pre .0) (start-of .args .shape) (start-of .pre .1))
 
     -- the words in front are the table
     front : take (start-of .args .shape .labels * (start-of .args .request .criteria + 2)) (c .build .last .1 .1 .1 .0) ≡ table R-of
