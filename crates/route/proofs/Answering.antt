@@ -86,35 +86,42 @@ none = 0 ∷ 0 ∷ 0 ∷ []
 abbrev pub three : List ℕ → List ℕ
 three xs = getD xs 0 0 ∷ getD xs 1 0 ∷ getD xs 2 0 ∷ []
 
+-- an ending, costs and a buffer that are the read-back's answer, in the order of its promises
+abbrev pub Answered : Req → List ℕ → List ℕ → ℕ → ℕ → ℕ → Ending → List ℕ → List ℕ → Type 0
+Answered R W buffer i v c e xs after =
+    (e ≡ endingOf R W (length buffer) i v c) × ((xs ≡ costsAfter R W (length buffer) i v c) × (after ≡ routeAfter R W buffer i v c))
+
 module _ (R : Req) (W buffer : List ℕ) (i v c : ℕ) where
   module _ (e : Ending) (xs : List ℕ) (is-none : xs ≡ 0 ∷ 0 ∷ 0 ∷ []) where
-    left : (n p : ℕ) → weigh (backRows R W (length buffer) i v c) ≡ refused n p → e ≡ refusal n p
-        → (e ≡ endingOf R W (length buffer) i v c) × (xs ≡ costsAfter R W (length buffer) i v c) × (buffer ≡ routeAfter R W buffer i v c)
+    left : (n p : ℕ) → weigh (backRows R W (length buffer) i v c) ≡ refused n p → e ≡ refusal n p → Answered R W buffer i v c e xs buffer
     unfolding endingOf costsAfter routeAfter
     left n p w h = (
       h ∙ sym (ap (λ (x : Weighed). ended x (length (arcsOf (chain R W i v c)))) w),
-      is-none ∙ sym (ap (λ (x : Weighed). settle x (three (costs R (labelIn R W i v c))) none) w),
-      sym (ap (λ (x : Weighed). settle x (write buffer 0 (arcsOf (chain R W i v c))) buffer) w),
+      (
+        is-none ∙ sym (ap (λ (x : Weighed). settle x (three (costs R (labelIn R W i v c))) none) w),
+        sym (ap (λ (x : Weighed). settle x (write buffer 0 (arcsOf (chain R W i v c))) buffer) w),
+      ),
     )
 
     -- a refusal leaves the buffer
     pub refused-all : (n p : ℕ) → weigh (backRows R W (length buffer) i v c) ≡ refused n p → (n ≡ 15 → ⊥) → e ≡ ending.Refused (record { number = n; place = p })
-        → (e ≡ endingOf R W (length buffer) i v c) × (xs ≡ costsAfter R W (length buffer) i v c) × (buffer ≡ routeAfter R W buffer i v c)
+        → Answered R W buffer i v c e xs buffer
     unfolding refusal
     refused-all n p w h q = left n p w (q ∙ sym (ap (λ (b : Bool). cond b ending.Empty (ending.Refused (record { number = n; place = p }))) (ne-eqb n 15 h)))
 
     -- and so does an empty cell
-    pub empty-all : weigh (backRows R W (length buffer) i v c) ≡ refused 15 0 → e ≡ ending.Empty
-        → (e ≡ endingOf R W (length buffer) i v c) × (xs ≡ costsAfter R W (length buffer) i v c) × (buffer ≡ routeAfter R W buffer i v c)
+    pub empty-all : weigh (backRows R W (length buffer) i v c) ≡ refused 15 0 → e ≡ ending.Empty → Answered R W buffer i v c e xs buffer
     unfolding refusal
     empty-all w q = left 15 0 w q
 
   -- a route is written at the front
   pub route-all : weigh (backRows R W (length buffer) i v c) ≡ clear → (n : ℕ) → n ≡ length (arcsOf (chain R W i v c)) → (xs after : List ℕ) → xs ≡ three (costs R (labelIn R W i v c)) → after ≡ write buffer 0 (arcsOf (chain R W i v c))
-      → (ending.Route n ≡ endingOf R W (length buffer) i v c) × (xs ≡ costsAfter R W (length buffer) i v c) × (after ≡ routeAfter R W buffer i v c)
+      → Answered R W buffer i v c (ending.Route n) xs after
   unfolding endingOf costsAfter routeAfter
   route-all w n h xs after q r = (
     ap ending.Route h ∙ sym (ap (λ (x : Weighed). ended x (length (arcsOf (chain R W i v c)))) w),
-    q ∙ sym (ap (λ (x : Weighed). settle x (three (costs R (labelIn R W i v c))) none) w),
-    r ∙ sym (ap (λ (x : Weighed). settle x (write buffer 0 (arcsOf (chain R W i v c))) buffer) w),
+    (
+      q ∙ sym (ap (λ (x : Weighed). settle x (three (costs R (labelIn R W i v c))) none) w),
+      r ∙ sym (ap (λ (x : Weighed). settle x (write buffer 0 (arcsOf (chain R W i v c))) buffer) w),
+    ),
   )

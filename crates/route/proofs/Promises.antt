@@ -29,7 +29,7 @@ use Rattle.route.specs.Answer.{breaks, arcsOf, backRows, refusal, ended,
 use Rattle.route.specs.Walked.{Walked, Sound, RouteRead, Fronts}
 use Rattle.route.specs.declared.Ending.the-variants as ending
 use Rattle.route.proofs.Sound.{chain-sound}
-use Rattle.route.proofs.Answering.{empty-cell, chain-broken, chain-whole, three, none, route-all}
+use Rattle.route.proofs.Answering.{empty-cell, chain-broken, chain-whole, three, none, Answered, route-all}
 use Rattle.route.proofs.Tables.{label-in, table-whole}
 
 -- ---- an ending tells how the rows were weighed
@@ -208,8 +208,7 @@ module _ (R : Req) (ok : Accepted R) (W buffer : List ℕ) (front : Fronts R W) 
       omega arith
 
   -- the read-back of a filled label answers its route: its arc count, its costs and its arcs
-  pub table-route : (ending.Route (length (route R i v c)) ≡ endingOf R W (length buffer) i v c)
-      × (three (costs R (labelAt R i v c)) ≡ costsAfter R W (length buffer) i v c) × (write buffer 0 (route R i v c) ≡ routeAfter R W buffer i v c)
+  pub table-route : Answered R W buffer i v c (ending.Route (length (route R i v c))) (three (costs R (labelAt R i v c))) (write buffer 0 (route R i v c))
   table-route =
       let e = table-whole R regular W front i v c hi hv hc full in
       let s : arcsOf (chain R W i v c) ≡ route R i v c = ap arcsOf e in
