@@ -120,10 +120,7 @@ module _ (p q : ℕ) (pos : 0 < q) where
       div-le-of-le-mul q (rw (mul-add b p q, mul-add q b b, mul-comm q b) (let l = mul-le-mul-left b le in omega arith)) in
       omega arith
 
-  -- every fence of a ladder but the last is at most its top, and the last at most twice the top, plus 1
-  pub below-top : {t j : ℕ} → j < buckets p q t → fence p q j ≤ t
-  below-top {t} {j} h = le-trans (fence-mono (let e = buckets-is p q t in omega arith)) (has-position t .0)
-
+  -- every fence of a ladder is at most twice its top, plus 1
   pub ladder-words : p ≤ q → (t j : ℕ) → j ≤ buckets p q t → fence p q j ≤ t + t + 1
   ladder-words le t j h =
       let e = buckets-is p q t in

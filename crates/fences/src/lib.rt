@@ -12,7 +12,7 @@ pub enum Buckets {
 }
 
 // The fence after b.
-pub fn next_fence(p: u32, q: u32, b: u32) -> u32
+fn next_fence(p: u32, q: u32, b: u32) -> u32
     requires { ⌜ (0 < q) × (p ≤ q) × (b ≤ 134217728) ⌝ }
     ensures { λ r. ⌜ r ≡ next p q b ⌝ }
 {

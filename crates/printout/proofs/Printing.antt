@@ -74,7 +74,7 @@ module _ (s : List ℕ) (room : ℕ) (enough : 53000 ≤ room) where
       ∙ sym (append-assoc (formRows s) (rows (asks s) ++ words-row ∷ []) (bytes-row ∷ []))
 
   -- which does not hold
-  pub same-weight : weigh (listRows s room) ≡ weigh (printoutRows s)
+  same-weight : weigh (listRows s room) ≡ weigh (printoutRows s)
   unfolding printoutRows Accepted
   same-weight = go (weigh (printoutRows s)) refl
     where

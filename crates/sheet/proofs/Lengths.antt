@@ -18,7 +18,7 @@ use Rattle.sheet.specs.Writer.{asksOf, written, Ranged}
 
 module _ (w : ℕ) where
   -- i arcs, and then j more
-  pub arcs-split : (i j : ℕ) (words : List ℕ) → arcLines w (i + j) words ≡ arcLines w i words ++ arcLines w j (drop (i * w) words)
+  arcs-split : (i j : ℕ) (words : List ℕ) → arcLines w (i + j) words ≡ arcLines w i words ++ arcLines w j (drop (i * w) words)
   unfolding arcLines
   arcs-split zero j words =
       let a : 0 + j ≡ j = zero-add j in

@@ -21,7 +21,7 @@ use Rattle.sheet.proofs.Answers.{same-refusal}
 -- ---- one to one
 
 -- two answers that say the same are the same
-pub writing-said-once : (a b : Writing) → writingSaid a ≡ writingSaid b → a ≡ b
+writing-said-once : (a b : Writing) → writingSaid a ≡ writingSaid b → a ≡ b
 writing-said-once (Bytes m) (Bytes n) e = let q : m ≡ n = cc in ap Bytes q
 writing-said-once (Bytes m) (Refused r) e = absurd (omega (arith, ap (length {A = ℕ}) e))
 writing-said-once (Refused r) (Bytes n) e = absurd (omega (arith, ap (length {A = ℕ}) e))
