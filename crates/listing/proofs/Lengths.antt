@@ -22,7 +22,7 @@ use Rattle.listing.specs.Listing.{labelWord}
 -- ---- digits
 
 -- below 100
-pub two-digits : (n : ℕ) → n < 100 → length (digits n) ≤ 2
+two-digits : (n : ℕ) → n < 100 → length (digits n) ≤ 2
 two-digits n h = width-within 1 10 width-one n (omega arith)
 
 -- below 1,000

@@ -16,7 +16,7 @@ before (x ∷ xs) zero v ys = ap (λ (r : List ℕ). v ∷ r) (write-none (write
 before (x ∷ xs) (suc a) v ys = ap (λ (r : List ℕ). x ∷ r) (before xs a v ys)
 
 -- a part lent, and written to from its front
-pub lent-front : (xs : List ℕ) (a k : ℕ) (ys : List ℕ) → length ys ≤ k → a + k ≤ length xs
+lent-front : (xs : List ℕ) (a k : ℕ) (ys : List ℕ) → length ys ≤ k → a + k ≤ length xs
     → take a xs ++ (write (part xs a k) 0 ys ++ drop k (drop a xs)) ≡ write xs a ys
 lent-front xs a k ys h g =
     lent xs a k (write (part xs a k) 0 ys) (length-write (part xs a k) 0 ys ∙ length-part xs a k g) g

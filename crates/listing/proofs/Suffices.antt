@@ -35,10 +35,11 @@ use Rattle.rounds.proofs.Costs.{Within, layer-costs}
 use Rattle.rounds.proofs.Tries.{bit-le}
 use Rattle.route.specs.Walked.{Fronts}
 use Rattle.route.proofs.Tables.{label-in}
+use Rattle.route.proofs.Sound.{chain-short}
 use Rattle.listing.specs.Listing.{coverWord, lastLabel, lastRoute, filledAt, filledOf, filledLast, labelNumbers, labelLine, nodeLines, labelLines, coverLine}
 use Rattle.listing.specs.Print.{Tabled}
 use Rattle.listing.specs.List.{asks, listingOf, requestRows, listRows}
-use Rattle.listing.proofs.Chains.{chain-short, chain-arcs}
+use Rattle.listing.proofs.Chains.{chain-arcs}
 use Rattle.listing.proofs.Lengths.{three-digits, eight-digits, no-digits, parted-few, line-le, join-le, some-hops, no-hops}
 use Rattle.listing.proofs.Places.{costs-long, few-labels}
 use Rattle.listing.proofs.Prints.{listing-length}

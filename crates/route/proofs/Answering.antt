@@ -5,11 +5,11 @@ use mathlib.Core.Bool.{Bool, true, false, cond, not, _||_}
 use mathlib.Core.List.{List, [], _∷_}
 use native.Mathlib.Omega.{arith}
 use lib.ListN.{length, getD}
-use lib.Dec.{T, T-not, leb, ltb, eqb, lt→ltb}
+use lib.Dec.{T, T-not, leb, ltb, eqb, lt→ltb, nltb→le}
 use borrow.Author.Tests.{eq-eqb, ne-eqb}
 use Rattle.words.specs.Pieces.{write}
 use Rattle.words.specs.Rows.{Weighed, clear, refused, weigh, settle}
-use Rattle.words.proofs.Choices.{true-is, is-true}
+use Rattle.words.proofs.Choices.{true-is, is-true, nor-left}
 use Rattle.words.proofs.Rows.{weigh-append, weigh-front, weigh-held, weigh-passed, weigh-none}
 use Rattle.request.specs.Request.{Req, width, reach}
 use Rattle.request.specs.Shape.{cells, labelCount}
@@ -24,10 +24,11 @@ use Rattle.route.specs.declared.Ending.the-variants as ending
 
 -- ---- the rows
 
-module _ (R : Req) (W : List ℕ) (room i v c : ℕ) where
-  abbrev verdict : Weighed
-  verdict = weigh (backRows R W room i v c)
+-- a layer, node and cell that are there: the layer is at most K
+pub layer-asked : (k n m i v c : ℕ) → T (not (ltb k i || leb n v || leb m c)) → i ≤ k
+layer-asked k n m i v c t = nltb→le k i (nor-left (ltb k i) (leb n v) (nor-left (ltb k i || leb n v) (leb m c) t))
 
+module _ (R : Req) (W : List ℕ) (room i v c : ℕ) where
   pub refused-early : (n p : ℕ) → weigh (rows R) ≡ refused n p → weigh (backRows R W room i v c) ≡ refused n p
   unfolding backRows
   refused-early n p e = weigh-front (rows R) _ n p e

@@ -50,7 +50,7 @@ word-inside l n h = lt-of-not-le (λ (g : length l ≤ n). h (List·getD-eq-defa
 -- ---- the costs of the label reached
 
 module _ (R : Req) (xs reached ys : List ℕ) where
-  pub agree-facts : T (agrees R xs reached ys) → T (filled R reached) → xs ≡ ys
+  agree-facts : T (agrees R xs reached ys) → T (filled R reached) → xs ≡ ys
   unfolding agrees
   agree-facts t u = same-equal xs ys (or-implies (filled R reached) (same xs ys) t u)
 
@@ -65,7 +65,7 @@ module _ (R : Req) (xs reached ys : List ℕ) where
   agree-filled h = let p : 0 < step R reached = omega arith in rw (lt-ltb 0 (step R reached) p)
 
   -- equal costs agree
-  pub agree-true : xs ≡ ys → T (agrees R xs reached ys)
+  agree-true : xs ≡ ys → T (agrees R xs reached ys)
   unfolding agrees
   agree-true e = or-right (not (filled R reached)) (same xs ys) (subst (λ (zs : List ℕ). T (same xs zs)) e (same-self xs))
 

@@ -59,7 +59,7 @@ module _ (R : Req) (W : List ℕ) (i v c : ℕ) where
       unfolding linkOf
       third = sym (cond-false (startHolds R i l v c) link.Ends _ no-start ∙ cond-false (keptHolds R i l (labelIn R W (i - 1) v c)) link.Kept _ no-kept)
 
-      pub lead-fails : T (not (arcHolds R i (labelIn R W i v c) v (step R (labelIn R W i v c) - 3) (labelIn R W (i - 1) (tail R (step R (labelIn R W i v c) - 3)) (from R (labelIn R W i v c))))) → link.Fails ≡ linkOf R W i v c
+      lead-fails : T (not (arcHolds R i (labelIn R W i v c) v (step R (labelIn R W i v c) - 3) (labelIn R W (i - 1) (tail R (step R (labelIn R W i v c) - 3)) (from R (labelIn R W i v c))))) → link.Fails ≡ linkOf R W i v c
       lead-fails t = sym (cond-false (arcHolds R i l v a reached) (link.Came a (tail R a) (from R l)) link.Fails t) ∙ third
 
       -- its step names no arc

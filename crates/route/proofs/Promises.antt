@@ -12,7 +12,7 @@ use borrow.Author.Tests.{eqb-true}
 use Rattle.words.specs.Pieces.{write}
 use Rattle.words.specs.Rows.{Weighed, clear, refused, weigh, row, Decides, NoneHolds, settle}
 use Rattle.words.proofs.Rows.{weigh-clear-front, weigh-clear-back, clear-cons, refused-decides, decides-refused, none-clear, clear-none}
-use Rattle.words.proofs.Choices.{or-neither, nor-left}
+use Rattle.words.proofs.Choices.{or-neither}
 use Rattle.request.specs.Request.{Req, width, reach}
 use Rattle.request.specs.Shape.{cells, labelCount}
 use Rattle.request.specs.Rows.{rows}
@@ -29,7 +29,7 @@ use Rattle.route.specs.Answer.{breaks, arcsOf, backRows, refusal, ended,
 use Rattle.route.specs.Walked.{Walked, Sound, RouteRead, Fronts}
 use Rattle.route.specs.declared.Ending.the-variants as ending
 use Rattle.route.proofs.Sound.{chain-sound}
-use Rattle.route.proofs.Answering.{empty-cell, chain-broken, chain-whole, three, none, Answered, route-all}
+use Rattle.route.proofs.Answering.{layer-asked, empty-cell, chain-broken, chain-whole, three, none, Answered, route-all}
 use Rattle.route.proofs.Tables.{label-in, table-whole}
 
 -- ---- an ending tells how the rows were weighed
@@ -78,14 +78,14 @@ module _ (R : Req) (W : List ℕ) (room i v c : ℕ) where
       go (refused k p) q e = absurd (no-route k p n e)
 
   -- what no row's holding tells
-  record Cleared : Type 0 where
-    accepted : Accepted R
-    long : labelCount R * width R ≤ length W
-    roomy : reach R ≤ room
-    inside : T (not (ltb (R .hops) i || leb (R .nodes) v || leb (cells R) c))
-    unbroken : T (not (breaks (chain R W i v c)))
+  pub record Cleared : Type 0 where
+    pub accepted : Accepted R
+    pub long : labelCount R * width R ≤ length W
+    pub roomy : reach R ≤ room
+    pub inside : T (not (ltb (R .hops) i || leb (R .nodes) v || leb (cells R) c))
+    pub unbroken : T (not (breaks (chain R W i v c)))
 
-  cleared : weigh (backRows R W room i v c) ≡ clear → Cleared
+  pub cleared : weigh (backRows R W room i v c) ≡ clear → Cleared
   unfolding backRows Accepted
   cleared e =
       let p = clear-cons _ _ (weigh-clear-back (rows R) _ e) in
@@ -179,7 +179,7 @@ module _ (R : Req) (W buffer : List ℕ) (i v c : ℕ) where
       let w = whole-walks (chain R W i v c) (chain-sound R W i v c) (q .unbroken) in
       let m = q .roomy in
       let h = w .short in
-      let k : i ≤ R .hops = nltb→le (R .hops) i (nor-left (ltb (R .hops) i) (leb (R .nodes) v) (nor-left (ltb (R .hops) i || leb (R .nodes) v) (leb (cells R) c) (q .inside))) in
+      let k = layer-asked (R .hops) (R .nodes) (cells R) i v c (q .inside) in
       record {
         walk = w .walk;
         short = w .short;

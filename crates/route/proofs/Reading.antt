@@ -6,10 +6,10 @@ use mathlib.Core.List.{List, [], _∷_}
 use native.Mathlib.Nat.{mul-le-mul}
 use native.Mathlib.Omega.{arith}
 use lib.ListN.{length, getD, take, length-take, List·getD-eq-default}
-use lib.Dec.{T, leb, ltb, nltb→le}
+use lib.Dec.{T, leb, ltb}
 use Rattle.words.specs.Pieces.{at, write}
 use Rattle.words.specs.Rows.{clear, refused, weigh}
-use Rattle.words.proofs.Choices.{true-is, false-is, nor-left}
+use Rattle.words.proofs.Choices.{true-is, false-is}
 use Rattle.words.proofs.Writes.{write-part}
 use Rattle.request.specs.Request.{Req, asked, width, reach}
 use Rattle.request.specs.Shape.{cells, labelCount}
@@ -25,7 +25,7 @@ use Rattle.route.specs.Answer.{arcsOf, backRows}
 use Rattle.route.specs.declared.Trail.the-variants as trail
 use Rattle.route.proofs.Places.{within-asked}
 use Rattle.route.proofs.Leading.{label-is}
-use Rattle.route.proofs.Answering.{short-labels, short-route, beyond-asked, empty-cell, chain-broken, chain-whole, three}
+use Rattle.route.proofs.Answering.{layer-asked, short-labels, short-route, beyond-asked, empty-cell, chain-broken, chain-whole, three}
 
 -- ---- the chain from its answer
 
@@ -105,7 +105,7 @@ module _ (q : Request) (arcs : List ℕ) (acc : Accepted (asked q arcs)) (s : Sh
             inside = false-is (sym asked-told ∙ f)
 
             pub inside-layer : i ≤ q .hops
-            inside-layer = nltb→le (q .hops) i (nor-left (ltb (R .hops) i) (leb (R .nodes) v) (nor-left (ltb (R .hops) i || leb (R .nodes) v) (leb (cells R) c) inside))
+            inside-layer = layer-asked (R .hops) (R .nodes) (cells R) i v c inside
 
             -- the label X that was found and its step k
             module _ (X : List ℕ) (x : X ≡ at (q .criteria + 2) W ((i * q .nodes + v) * s .cells + c)) (k : ℕ) (is-k : k ≡ step (asked q arcs) X) where

@@ -11,9 +11,10 @@ use Rattle.request.specs.Request.{Req, asked, reach}
 use Rattle.rounds.specs.Label.{costs}
 use Rattle.route.specs.Chain.{chain}
 use Rattle.route.specs.Answer.{arcsOf}
+use Rattle.route.proofs.Sound.{chain-short}
 use Rattle.listing.specs.Listing.{lastLabel, lastRoute, labelNumbers}
 use Rattle.listing.specs.Print.{countOf}
-use Rattle.listing.proofs.Chains.{count-is, chain-short}
+use Rattle.listing.proofs.Chains.{count-is}
 use Rattle.listing.proofs.Numbers as numbers
 use Rattle.listing.proofs.Places.{place-asks, place-small, place-end, costs-part, costs-long}
 use Rattle.listing.proofs.label_numbers.Statement.{statement}

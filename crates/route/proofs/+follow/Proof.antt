@@ -11,7 +11,9 @@ use Rattle.route.specs.declared.Link.{Link}
 use Rattle.route.specs.declared.Link.the-variants as link
 use Rattle.route.proofs.Places.{within-asked}
 use Rattle.route.proofs.Leading.{kept-before, came-before}
-use Rattle.route.proofs.Following.{chain-fails, chain-ends, chain-kept, chain-came, chain-short, follow-fails, follow-ends, follow-kept, follow-broke, follow-came}
+use Rattle.route.proofs.Sound.{chain-short}
+use Rattle.route.proofs.Reading.{was-whole}
+use Rattle.route.proofs.Following.{chain-fails, chain-ends, chain-kept, chain-came, follow-fails, follow-ends, follow-kept, follow-broke, follow-came}
 use borrow.Fn.Kinds.{In}
 use borrow.Fn.PlainCycle.{Measures, is, falls, and}
 use Rattle.route.proofs.follow.Reads as follow
@@ -103,7 +105,8 @@ module _ (t : ℕ) where
     room-left =
         let s = came-start found-of in
         let z = came-layer found-of in
-        let k = chain-short (R s) (W s) (s .args .layer - 1) (tail-of found-of) (from-of found-of) count-of (sym (c .before .earlier2 .given .1) ∙ c .before .before .before .before .before .follow2 .ensures .0) in
+        let n = was-whole (earlier-of s (tail-of found-of) (from-of found-of)) count-of (sym (c .before .earlier2 .given .1) ∙ c .before .before .before .before .before .follow2 .ensures .0) .1 in
+        let k = chain-short (R s) (W s) (s .args .layer - 1) (tail-of found-of) (from-of found-of) in
         (omega arith, s .pre .1 .1 .0 .hops-few)
 
   -- ---- the needs
