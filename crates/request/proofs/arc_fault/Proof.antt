@@ -25,7 +25,9 @@ returns-3 : tie.Need-returns-3
 returns-3 c = let a = c .before .before .before .before .before .before .before .args in sym (fault-cost (a .n) (a .d) (a .arc .now) (true-is (sym (c .before .cost-over .ensures) ∙ c .if3 .taken)))
 
 returns-4 : tie.Need-returns-4
-returns-4 c = let a = c .before .before .before .before .before .before .before .args in sym (fault-none (a .n) (a .d) (a .arc .now) (c .before .before .before .before .if1 .left) (c .before .before .if2 .left) (false-is (sym (c .before .cost-over .ensures) ∙ c .if3 .left)))
+returns-4 c =
+    let a = c .before .before .before .before .before .before .before .args in
+    sym (fault-none (a .n) (a .d) (a .arc .now) (c .before .before .before .before .if1 .left) (c .before .before .if2 .left) (false-is (sym (c .before .cost-over .ensures) ∙ c .if3 .left)))
 
 pub arc-fault-spec : {M : Type 1} → statement M
 arc-fault-spec =
