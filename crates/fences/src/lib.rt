@@ -1,6 +1,6 @@
 // The fences of a ratio p over q: the next fence, a ladder top's bucket count, a ladder's words, a cost's position.
 ghost use mathlib.Core.Path.{_≡_};
-ghost use Prim.Native.Nat.{ℕ, _+_, _≤_, _<_};
+ghost use Prim.Native.Nat.{_+_, _≤_, _<_};
 ghost use lib.ListN.{length};
 ghost use Rattle.fences.specs.Fence.{next, fences, buckets};
 ghost use Rattle.fences.specs.Answer.{bucketsOf, Bracket, Slot};

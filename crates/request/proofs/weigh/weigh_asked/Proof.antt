@@ -11,8 +11,8 @@ use Rattle.request.proofs.Accepted.{Sizes, sizes-facts, words-facts}
 use Rattle.request.proofs.Stages.{was-clear, by-sizes, by-ratios, by-words, by-arcs}
 use borrow.Author.Needs.{needs}
 use native.Mathlib.Omega.{arith}
-use Rattle.request.proofs.weigh_asked.Statement.{statement}
-use Rattle.request.proofs.weigh_asked.Tie as tie
+use Rattle.request.proofs.weigh.weigh_asked.Statement.{statement}
+use Rattle.request.proofs.weigh.weigh_asked.Tie as tie
 
 -- ---- what has been found clear
 

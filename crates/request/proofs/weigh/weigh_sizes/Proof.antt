@@ -8,8 +8,8 @@ use Rattle.request.specs.Rows.{outside}
 use Rattle.request.specs.Answer.{said}
 use Rattle.request.proofs.Branches.{sizes-2, sizes-3, sizes-4, sizes-5, sizes-clear}
 use borrow.Author.Needs.{needs}
-use Rattle.request.proofs.weigh_sizes.Statement.{statement}
-use Rattle.request.proofs.weigh_sizes.Tie as tie
+use Rattle.request.proofs.weigh.weigh_sizes.Statement.{statement}
+use Rattle.request.proofs.weigh.weigh_sizes.Tie as tie
 
 -- ---- what has been found in range
 

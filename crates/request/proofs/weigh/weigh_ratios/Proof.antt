@@ -12,8 +12,8 @@ use Rattle.request.specs.Answer.{said}
 use Rattle.request.proofs.Branches.{ratio-q, ratio-p, ratio-good, ratios-refused}
 use borrow.Author.Needs.{needs}
 use native.Mathlib.Omega.{arith}
-use Rattle.request.proofs.weigh_ratios.Statement.{statement}
-use Rattle.request.proofs.weigh_ratios.Tie as tie
+use Rattle.request.proofs.weigh.weigh_ratios.Statement.{statement}
+use Rattle.request.proofs.weigh.weigh_ratios.Tie as tie
 
 abbrev Inv-loop : tie.InvT-loop
 Inv-loop graded ratios j₀ j = (j ≤ graded) × ((i : ℕ) → i < j → T (not (ratioRow ratios i .holds)))

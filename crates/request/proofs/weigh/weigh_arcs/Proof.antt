@@ -14,8 +14,8 @@ use Rattle.request.specs.Answer.{said}
 use Rattle.request.proofs.Branches.{arc-good, arcs-refused}
 use borrow.Author.Needs.{needs}
 use native.Mathlib.Omega.{arith}
-use Rattle.request.proofs.weigh_arcs.Statement.{statement}
-use Rattle.request.proofs.weigh_arcs.Tie as tie
+use Rattle.request.proofs.weigh.weigh_arcs.Statement.{statement}
+use Rattle.request.proofs.weigh.weigh_arcs.Tie as tie
 
 abbrev Inv-loop : tie.InvT-loop
 Inv-loop arcs n d w m a₀ a = (a ≤ length arcs / (d + 2)) × ((i : ℕ) → i < a → T (not (arcRow n d arcs i .holds)))

@@ -3,8 +3,8 @@ use mathlib.Core.Path.{sym, _∙_}
 use Rattle.words.proofs.Choices.{true-is, false-is}
 use Rattle.request.proofs.Branches.{fault-tail, fault-head, fault-cost, fault-none}
 use borrow.Author.Needs.{needs}
-use Rattle.request.proofs.arc_fault.Statement.{statement}
-use Rattle.request.proofs.arc_fault.Tie as tie
+use Rattle.request.proofs.weigh.arc_fault.Statement.{statement}
+use Rattle.request.proofs.weigh.arc_fault.Tie as tie
 
 shared-slice-read-if1 : tie.Need-shared-slice-read-if1
 shared-slice-read-if1 c = search needs
