@@ -1,13 +1,14 @@
 -- Refusal tables whose refusals have room in a packed number. Assumes nothing.
 use Prim.Native.Nat.{ℕ, zero, suc, _<_}
 use mathlib.Core.Path.{_≡_, refl, sym, _∙_, subst}
-use mathlib.Core.Bool.{Bool, true, false, not, _&&_}
+use mathlib.Core.Bool.{Bool, true, not, _&&_}
 use mathlib.Core.List.{List, [], _∷_, _++_}
 use native.Mathlib.Nat.{le-refl, le-step}
 use native.Mathlib.Omega.{arith}
 use lib.Dec.{T, ltb, ltb→lt}
 use Rattle.words.specs.Loops.{upTo}
 use Rattle.words.specs.Rows.{Row, Weighed, clear, refused, weigh, each}
+use Rattle.words.proofs.Choices.{and-both}
 use Rattle.words.proofs.Rows.{weigh-held, weigh-passed, weigh-none, either, refused-not-clear}
 use Rattle.desk.specs.Packed.{Answer}
 
@@ -31,14 +32,10 @@ roomy (r ∷ rs) = ltb 0 (r .number) && ltb (r .number) 65536 && ltb (r .place) 
 pub sound-listed : (rs : List Row) → T (roomy rs) → Sound rs
 sound-listed [] t = tt
 sound-listed (r ∷ rs) t =
-    let p = all-four (ltb 0 (r .number)) (ltb (r .number) 65536) (ltb (r .place) 4294967296) (roomy rs) t in
-    (λ _. record { some = ltb→lt 0 (r .number) (p .0); few = ltb→lt (r .number) 65536 (p .1); near = ltb→lt (r .place) 4294967296 (p .2) }, λ _. sound-listed rs (p .3))
-  where
-    all-four : (a b c d : Bool) → T (a && b && c && d) → T a × T b × T c × T d
-    all-four true true true d t = (tt, tt, tt, t)
-    all-four true true false d t = absurd t
-    all-four true false c d t = absurd t
-    all-four false b c d t = absurd t
+    let p = and-both (ltb 0 (r .number) && ltb (r .number) 65536 && ltb (r .place) 4294967296) (roomy rs) t in
+    let q = and-both (ltb 0 (r .number) && ltb (r .number) 65536) (ltb (r .place) 4294967296) (p .0) in
+    let u = and-both (ltb 0 (r .number)) (ltb (r .number) 65536) (q .0) in
+    (λ _. record { some = ltb→lt 0 (r .number) (u .0); few = ltb→lt (r .number) 65536 (u .1); near = ltb→lt (r .place) 4294967296 (q .1) }, λ _. sound-listed rs (p .1))
 
 -- so the answer's has
 pub sound-refused : (rs : List Row) (n p : ℕ) → Sound rs → weigh rs ≡ refused n p → Room n p

@@ -134,12 +134,15 @@ module _ (q : Request) (arcs : List ℕ) (ok : Accepted (asked q arcs)) where
       none : q .hops < 1 → length (labelLines R W) ≤ 52900
       none l =
           let z : q .hops ≡ 0 = omega arith in
-          omega (arith, lines-few 1 (λ n g. no-digits n (omega arith)), mul-assoc (q .nodes) (cells R) (12 + q .criteria * 2 + q .hops * 4), no-hops (q .nodes * cells R) (q .hops) (q .criteria) (accepted-small R ok .two) (accepted-small R ok .three) z h)
+          let few = no-hops (q .nodes * cells R) (q .hops) (q .criteria) (accepted-small R ok .two) (accepted-small R ok .three) z h in
+          omega (arith, lines-few 1 (λ n g. no-digits n (omega arith)), mul-assoc (q .nodes) (cells R) (12 + q .criteria * 2 + q .hops * 4))
 
       -- else they have at most eight digits
       some : 1 ≤ q .hops → length (labelLines R W) ≤ 52900
       some l =
-          omega (arith, lines-few 8 (λ n g. eight-digits n (omega (arith, g, accepted-small R ok .hops-few))), mul-assoc (q .nodes) (cells R) (12 + q .criteria * 9 + q .hops * 4), some-hops (q .nodes * cells R) (q .hops) (q .criteria) (accepted-small R ok .two) (accepted-small R ok .three) l h)
+          let few = some-hops (q .nodes * cells R) (q .hops) (q .criteria) (accepted-small R ok .two) (accepted-small R ok .three) l h in
+          let lines = lines-few 8 (λ n g. eight-digits n (omega (arith, g, accepted-small R ok .hops-few))) in
+          omega (arith, mul-assoc (q .nodes) (cells R) (12 + q .criteria * 9 + q .hops * 4))
 
   -- as many filled labels as there are labels in a layer, at most
   filled-few : filledLast R W ≤ q .nodes * cells R

@@ -8,7 +8,7 @@ use native.Mathlib.Omega.{arith}
 use lib.ListN.{length, getD, replicate, List·getD-eq-default}
 use lib.Dec.{T, leb, ltb, eqb, leb→le, ltb→lt, eqb→eq}
 use borrow.Author.Tests.{eq-eqb, lt-ltb, le-leb}
-use Rattle.words.proofs.Choices.{or-right, or-implies}
+use Rattle.words.proofs.Choices.{or-right, or-implies, and-both}
 use Rattle.request.specs.Request.{Req, arcCount, head, arcCosts}
 use Rattle.request.specs.Shape.{cells}
 use Rattle.rounds.specs.Label.{costs, step, from, filled, sum}
@@ -22,22 +22,20 @@ pub not-held : (b : Bool) → (T b → ⊥) → false ≡ b
 not-held true h = absurd (h tt)
 not-held false h = refl
 
-all5 : (a b c d e : Bool) → T (a && b && c && d && e) → T a × T b × T c × T d × T e
-all5 true true true true e t = (tt, tt, tt, tt, t)
-all5 true true true false e t = absurd t
-all5 true true false d e t = absurd t
-all5 true false c d e t = absurd t
-all5 false b c d e t = absurd t
-
+-- each of several tests that hold together
 all4 : (a b c d : Bool) → T (a && b && c && d) → T a × T b × T c × T d
-all4 a b c d t = go (all5 true a b c d t)
-  where
-    go : T true × T a × T b × T c × T d → T a × T b × T c × T d
-    go p = (p .1, p .2, p .3, p .4)
+all4 a b c d t =
+    let p = and-both (a && b && c) d t in
+    let q = and-both (a && b) c (p .0) in
+    let r = and-both a b (q .0) in
+    (r .0, r .1, q .1, p .1)
 
 all6 : (a b c d e f : Bool) → T (a && b && c && d && e && f) → T a × T b × T c × T d × T e × T f
-all6 true b c d e f t = let p = all5 b c d e f t in (tt, p .0, p .1, p .2, p .3, p .4)
-all6 false b c d e f t = absurd t
+all6 a b c d e f t =
+    let p = and-both (a && b && c && d && e) f t in
+    let q = and-both (a && b && c && d) e (p .0) in
+    let r = all4 a b c d (q .0) in
+    (r .0, r .1, r .2, r .3, q .1, p .1)
 
 -- a bound passed is not kept
 pub not-under : {x y : ℕ} → x ≤ y → y < x → ⊥

@@ -68,9 +68,12 @@ returns-2 c =
     let k = c .before .before .before in
     let s = start-of k in
     let a = s .args in
-    let h = filled-label (asked (a .request) (a .arcs .now)) (a .labels .now) (a .node) (a .cell) (sym (c .before .before .before .before .before .before .is-filled .ensures) ∙ not-false (c .before .before .before .before .before .before .is-filled .result) (c .before .before .before .before .before .if1 .left)) in
+    let f = c .before .before .before .before .before .before .is-filled in
+    let t = sym (f .ensures) ∙ not-false (f .result) (c .before .before .before .before .before .if1 .left) in
+    let h = filled-label (asked (a .request) (a .arcs .now)) (a .labels .now) (a .node) (a .cell) t in
     let w = c .widths .ensures .0 ∙ ap partedWidth (stored k .front) in
-    ((h .0, omega arith), (omega (arith, w, line-width tab labelWord (numbers-of k), ap length (h .1)), omega (arith, stored k .few, ap length (stored k .front), c .widths .ensures .1)))
+    let few = ap length (stored k .front) in
+    ((h .0, omega arith), (omega (arith, w, line-width tab labelWord (numbers-of k), ap length (h .1)), omega (arith, stored k .few, c .widths .ensures .1)))
 
 pub measure-label-spec : {M : Type 1} → statement M
 measure-label-spec = tie.close (tie.spec is-filled-requires returns slice-aggregate-label-numbers label-numbers-requires array-share-prefix-numbers slice-aggregate-widths widths-requires add-t16 returns-2)

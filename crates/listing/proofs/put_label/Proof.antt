@@ -32,11 +32,14 @@ module _ (c : tie.After-label-numbers) where
       numbers-stored (a .request) (a .arcs .now) (a .labels .now) (a .cells) (s .pre .0) (a .node) (a .cell) (s .pre .1 .0 .0) (s .pre .1 .0 .1) _ _ (c .label-numbers .ensures .0) (c .label-numbers .ensures .1)
 
   -- the line of these numbers is the label's
-  line : lineText tab labelWord (take (c .label-numbers .result) (c .label-numbers .last .1 .1 .1 .1 .1 .1 .0)) ≡ labelLine (asked (start-of .args .request) (start-of .args .arcs .now)) (start-of .args .labels .now) (start-of .args .node) (start-of .args .cell)
+  line : lineText tab labelWord (take (c .label-numbers .result) (c .label-numbers .last .1 .1 .1 .1 .1 .1 .0))
+      ≡ labelLine (asked (start-of .args .request) (start-of .args .arcs .now)) (start-of .args .labels .now) (start-of .args .node) (start-of .args .cell)
   line =
       let s = start-of in
       let a = s .args in
-      ap (lineText tab labelWord) (stored .front) ∙ filled-label (asked (a .request) (a .arcs .now)) (a .labels .now) (a .node) (a .cell) (sym (c .before .before .before .is-filled .ensures) ∙ not-false (c .before .before .before .is-filled .result) (c .before .before .if1 .left)) .1
+      let f = c .before .before .before .is-filled in
+      let t = sym (f .ensures) ∙ not-false (f .result) (c .before .before .if1 .left) in
+      ap (lineText tab labelWord) (stored .front) ∙ filled-label (asked (a .request) (a .arcs .now)) (a .labels .now) (a .node) (a .cell) t .1
 
 is-filled-requires : tie.Need-is-filled-requires
 is-filled-requires c κs =

@@ -107,10 +107,16 @@ mul-words : tie.Need-mul-words
 mul-words c = omega (arith, few (c .before .before .before .before .before .before .before) _ (c .before .before .before .built2 .given .1))
 
 array-share-prefix-labels : tie.Need-array-share-prefix-labels
-array-share-prefix-labels c = omega (arith, few (c .before .before .before .before .before .before .before) _ (c .before .before .before .built2 .given .1), long (c .before .before .before .before .before .before .before) _ (c .before .before .before .built2 .given .1))
+array-share-prefix-labels c =
+    let k = c .before .before .before .before .before .before .before in
+    let e = c .before .before .before .built2 .given .1 in
+    omega (arith, few k _ e, long k _ e)
 
 slice-aggregate-print : tie.Need-slice-aggregate-print
-slice-aggregate-print c = sym (length-take-le _ _ (omega (arith, few (c .before .before .before .before .before .before .before .before) _ (c .before .before .before .before .built2 .given .1), long (c .before .before .before .before .before .before .before .before) _ (c .before .before .before .before .built2 .given .1))))
+slice-aggregate-print c =
+    let k = c .before .before .before .before .before .before .before .before in
+    let e = c .before .before .before .before .built2 .given .1 in
+    sym (length-take-le _ _ (omega (arith, few k _ e, long k _ e)))
 
 cast-print : tie.Need-cast-print
 cast-print c = omega (arith, small (c .before .before .before .before .before .before .before .before) _ (c .before .before .before .before .built2 .given .1))
@@ -145,4 +151,23 @@ returns-2 c =
     (c .answer-of .ensures ∙ l .says, l .left)
 
 pub list-shaped-spec : {M : Type 1} → statement M
-list-shaped-spec = tie.close (tie.spec slice-aggregate-build slice-aggregate-build-2 build-requires enum-known-built enum-known-built-2 cast-words cast-words-2 add-words mul-words array-share-prefix-labels slice-aggregate-print cast-print print-requires answer-of-requires returns same-length returns-2)
+list-shaped-spec =
+    tie.close
+    (tie.spec
+    slice-aggregate-build
+    slice-aggregate-build-2
+    build-requires
+    enum-known-built
+    enum-known-built-2
+    cast-words
+    cast-words-2
+    add-words
+    mul-words
+    array-share-prefix-labels
+    slice-aggregate-print
+    cast-print
+    print-requires
+    answer-of-requires
+    returns
+    same-length
+    returns-2)
