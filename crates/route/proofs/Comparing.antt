@@ -7,16 +7,12 @@ use native.Mathlib.Omega.{arith}
 use lib.ListN.{length, getD, take, drop, replicate, length-drop, length-replicate, getD-replicate}
 use lib.Seq.{length-take-le, getD-take, getD-drop, ext-getD}
 use lib.Dec.{T, eqb, eqb→eq, eqb-refl}
-use Rattle.words.proofs.Choices.{is-true, true-is}
+use Rattle.words.proofs.Choices.{is-true, true-is, and-both}
 use Rattle.rounds.specs.Label.{sum}
 use Rattle.rounds.proofs.Labels.{getD-sum, length-sum}
 use Rattle.route.specs.Chain.{same}
 
 -- ---- the test is equality
-
-and-both : (a b : Bool) → T (a && b) → T a × T b
-and-both true b t = (tt, t)
-and-both false b t = absurd t
 
 both-and : (a b : Bool) → T a → T b → T (a && b)
 both-and true b t u = u
