@@ -64,7 +64,7 @@ module _ (q : Request) (arcs W : List ℕ) (room i v c : ℕ) where
   unfolding Accepted
   route-few e =
       let k = cleared (asked q arcs) W room i v c e in
-      omega (arith, hops-few (k .accepted), layer-asked (q .hops) (q .nodes) (cells (asked q arcs)) i v c (k .inside), chain-short (asked q arcs) W i v c)
+      omega (arith, hops-few (k .placed .accepted), layer-asked (q .hops) (q .nodes) (cells (asked q arcs)) i v c (k .placed .inside), chain-short (asked q arcs) W i v c)
 
   pub back-answer : Answer (endingSaid (endingOf (asked q arcs) W room i v c))
   unfolding endingOf

@@ -38,7 +38,7 @@ sound-listed (r ∷ rs) t =
     (λ _. record { some = ltb→lt 0 (r .number) (u .0); few = ltb→lt (r .number) 65536 (u .1); near = ltb→lt (r .place) 4294967296 (q .1) }, λ _. sound-listed rs (p .1))
 
 -- so the answer's has
-pub sound-refused : (rs : List Row) (n p : ℕ) → Sound rs → weigh rs ≡ refused n p → Room n p
+sound-refused : (rs : List Row) (n p : ℕ) → Sound rs → weigh rs ≡ refused n p → Room n p
 sound-refused [] n p s e = absurd (refused-not-clear n p (sym e ∙ weigh-none))
 sound-refused (r ∷ rs) n p s e =
     either (Room n p) (r .holds)

@@ -28,6 +28,13 @@ use Rattle.route.specs.declared.Ending.the-variants as ending
 pub layer-asked : (k n m i v c : ℕ) → T (not (ltb k i || leb n v || leb m c)) → i ≤ k
 layer-asked k n m i v c t = nltb→le k i (nor-left (ltb k i) (leb n v) (nor-left (ltb k i || leb n v) (leb m c) t))
 
+-- rows 2 to 14 pass: an accepted request, words and room enough, and a layer, node and cell that are there
+pub record Placed (R : Req) (W : List ℕ) (room i v c : ℕ) : Type 0 where
+  pub accepted : Accepted R
+  pub long : labelCount R * width R ≤ length W
+  pub roomy : reach R ≤ room
+  pub inside : T (not (ltb (R .hops) i || leb (R .nodes) v || leb (cells R) c))
+
 module _ (R : Req) (W : List ℕ) (room i v c : ℕ) where
   pub refused-early : (n p : ℕ) → weigh (rows R) ≡ refused n p → weigh (backRows R W room i v c) ≡ refused n p
   unfolding backRows
@@ -48,30 +55,35 @@ module _ (R : Req) (W : List ℕ) (room i v c : ℕ) where
         unfolding backRows Accepted
         beyond-asked t = weigh-append (rows R) _ ok ∙ weigh-passed _ _ (lt-fails long) ∙ weigh-passed _ _ (lt-fails roomy) ∙ weigh-held _ _ t
 
-        module _ (inside : T (not (ltb (R .hops) i || leb (R .nodes) v || leb (cells R) c))) where
-          pub empty-cell : step R (labelIn R W i v c) ≡ 0 → weigh (backRows R W room i v c) ≡ refused 15 0
-          unfolding backRows Accepted filled
-          empty-cell e =
-              weigh-append (rows R) _ ok ∙ weigh-passed _ _ (lt-fails long) ∙ weigh-passed _ _ (lt-fails roomy) ∙ weigh-passed _ _ inside
-              ∙ weigh-held _ _ (subst (λ (s : ℕ). T (cond (ltb 0 s) false true)) (sym e) tt)
+  module _ (placed : Placed R W room i v c) where
+    -- then the label decides
+    label-left : weigh (backRows R W room i v c)
+        ≡ weigh (record { number = 15; holds = cond (filled R (labelIn R W i v c)) false true; place = 0 } ∷ record { number = 16; holds = breaks (chain R W i v c); place = breakLayer (chain R W i v c) } ∷ [])
+    unfolding backRows Accepted
+    label-left = weigh-append (rows R) _ (placed .accepted) ∙ weigh-passed _ _ (lt-fails (placed .long)) ∙ weigh-passed _ _ (lt-fails (placed .roomy)) ∙ weigh-passed _ _ (placed .inside)
 
-          module _ (some : step R (labelIn R W i v c) ≡ 0 → ⊥) where
-            chain-left : weigh (backRows R W room i v c) ≡ weigh (record { number = 16; holds = breaks (chain R W i v c); place = breakLayer (chain R W i v c) } ∷ [])
-            unfolding backRows Accepted filled
-            chain-left =
-                let p : 0 < step R (labelIn R W i v c) = omega arith in
-                weigh-append (rows R) _ ok ∙ weigh-passed _ _ (lt-fails long) ∙ weigh-passed _ _ (lt-fails roomy) ∙ weigh-passed _ _ inside
-                ∙ weigh-passed _ _ (subst (λ (b : Bool). T (not (cond b false true))) (sym (is-true (ltb 0 (step R (labelIn R W i v c))) (lt→ltb 0 (step R (labelIn R W i v c)) p))) tt)
+    pub empty-cell : step R (labelIn R W i v c) ≡ 0 → weigh (backRows R W room i v c) ≡ refused 15 0
+    unfolding filled
+    empty-cell e = label-left ∙ weigh-held _ _ (subst (λ (s : ℕ). T (cond (ltb 0 s) false true)) (sym e) tt)
 
-            pub chain-broken : (k : ℕ) → chain R W i v c ≡ broken k → weigh (backRows R W room i v c) ≡ refused 16 k
-            chain-broken k e =
-                chain-left ∙ ap (λ (x : Chain). weigh (record { number = 16; holds = breaks x; place = breakLayer x } ∷ [])) e
-                ∙ weigh-held (record { number = 16; holds = true; place = k }) [] tt
+    module _ (some : step R (labelIn R W i v c) ≡ 0 → ⊥) where
+      -- and, where it is filled, its chain
+      chain-left : weigh (backRows R W room i v c) ≡ weigh (record { number = 16; holds = breaks (chain R W i v c); place = breakLayer (chain R W i v c) } ∷ [])
+      unfolding filled
+      chain-left =
+          let p : 0 < step R (labelIn R W i v c) = omega arith in
+          label-left
+          ∙ weigh-passed _ _ (subst (λ (b : Bool). T (not (cond b false true))) (sym (is-true (ltb 0 (step R (labelIn R W i v c))) (lt→ltb 0 (step R (labelIn R W i v c)) p))) tt)
 
-            pub chain-whole : (ws : List ℕ) → chain R W i v c ≡ whole ws → weigh (backRows R W room i v c) ≡ clear
-            chain-whole ws e =
-                chain-left ∙ ap (λ (x : Chain). weigh (record { number = 16; holds = breaks x; place = breakLayer x } ∷ [])) e
-                ∙ weigh-passed (record { number = 16; holds = false; place = 0 }) [] tt ∙ weigh-none
+      pub chain-broken : (k : ℕ) → chain R W i v c ≡ broken k → weigh (backRows R W room i v c) ≡ refused 16 k
+      chain-broken k e =
+          chain-left ∙ ap (λ (x : Chain). weigh (record { number = 16; holds = breaks x; place = breakLayer x } ∷ [])) e
+          ∙ weigh-held (record { number = 16; holds = true; place = k }) [] tt
+
+      pub chain-whole : (ws : List ℕ) → chain R W i v c ≡ whole ws → weigh (backRows R W room i v c) ≡ clear
+      chain-whole ws e =
+          chain-left ∙ ap (λ (x : Chain). weigh (record { number = 16; holds = breaks x; place = breakLayer x } ∷ [])) e
+          ∙ weigh-passed (record { number = 16; holds = false; place = 0 }) [] tt ∙ weigh-none
 
 -- ---- the answers
 

@@ -29,7 +29,7 @@ use Rattle.route.specs.Answer.{breaks, arcsOf, backRows, refusal, ended,
 use Rattle.route.specs.Walked.{Walked, Sound, RouteRead, Fronts}
 use Rattle.route.specs.declared.Ending.the-variants as ending
 use Rattle.route.proofs.Sound.{chain-sound}
-use Rattle.route.proofs.Answering.{layer-asked, empty-cell, chain-broken, chain-whole, three, none, Answered, route-all}
+use Rattle.route.proofs.Answering.{layer-asked, Placed, empty-cell, chain-broken, chain-whole, three, none, Answered, route-all}
 use Rattle.route.proofs.Tables.{label-in, table-whole}
 
 -- ---- an ending tells how the rows were weighed
@@ -79,10 +79,7 @@ module _ (R : Req) (W : List ℕ) (room i v c : ℕ) where
 
   -- what no row's holding tells
   pub record Cleared : Type 0 where
-    pub accepted : Accepted R
-    pub long : labelCount R * width R ≤ length W
-    pub roomy : reach R ≤ room
-    pub inside : T (not (ltb (R .hops) i || leb (R .nodes) v || leb (cells R) c))
+    pub placed : Placed R W room i v c
     pub unbroken : T (not (breaks (chain R W i v c)))
 
   pub cleared : weigh (backRows R W room i v c) ≡ clear → Cleared
@@ -94,10 +91,12 @@ module _ (R : Req) (W : List ℕ) (room i v c : ℕ) where
       let t = clear-cons _ _ (s .1) in
       let u = clear-cons _ _ (t .1) in
       record {
-        accepted = weigh-clear-front (rows R) _ e;
-        long = nltb→le (length W) (labelCount R * width R) (p .0);
-        roomy = nltb→le room (reach R) (q .0);
-        inside = s .0;
+        placed = record {
+          accepted = weigh-clear-front (rows R) _ e;
+          long = nltb→le (length W) (labelCount R * width R) (p .0);
+          roomy = nltb→le room (reach R) (q .0);
+          inside = s .0;
+        };
         unbroken = u .0;
       }
 
@@ -141,17 +140,20 @@ module _ (R : Req) (W : List ℕ) (room i v c : ℕ) where
 
   -- EMPTY, once the rows before it pass: exactly where the step is 0
   module _ (ok : Accepted R) (long : labelCount R * width R ≤ length W) (roomy : reach R ≤ room) (inside : T (not (ltb (R .hops) i || leb (R .nodes) v || leb (cells R) c))) where
+    abbrev placed : Placed R W room i v c
+    placed = record { accepted = ok; long = long; roomy = roomy; inside = inside }
+
     pub empty-if : step R (labelIn R W i v c) ≡ 0 → endingOf R W room i v c ≡ ending.Empty
     unfolding endingOf refusal
-    empty-if z = ap (λ (w : Weighed). ended w (length arcs)) (empty-cell R W room i v c ok long roomy inside z)
+    empty-if z = ap (λ (w : Weighed). ended w (length arcs)) (empty-cell R W room i v c placed z)
 
     -- a filled label's chain breaks or is whole, and neither is an empty cell
     not-empty : (step R (labelIn R W i v c) ≡ 0 → ⊥) → (ch : Chain) → chain R W i v c ≡ ch → endingOf R W room i v c ≡ ending.Empty → ⊥
     unfolding endingOf
     not-empty some (broken k) q e =
-        let n = empty-number 16 k (sym (ap (λ (w : Weighed). ended w (length arcs)) (chain-broken R W room i v c ok long roomy inside some k q)) ∙ e) in absurd (omega arith)
+        let n = empty-number 16 k (sym (ap (λ (w : Weighed). ended w (length arcs)) (chain-broken R W room i v c placed some k q)) ∙ e) in absurd (omega arith)
     not-empty some (whole ws) q e =
-        let n : ending.Route (length arcs) ≡ ending.Empty = sym (ap (λ (w : Weighed). ended w (length arcs)) (chain-whole R W room i v c ok long roomy inside some ws q)) ∙ e in
+        let n : ending.Route (length arcs) ≡ ending.Empty = sym (ap (λ (w : Weighed). ended w (length arcs)) (chain-whole R W room i v c placed some ws q)) ∙ e in
         let z : _≡_ {A = ℕ} 0 1 = cc in absurd (omega arith)
 
     pub empty-only : endingOf R W room i v c ≡ ending.Empty → step R (labelIn R W i v c) ≡ 0
@@ -177,9 +179,9 @@ module _ (R : Req) (W buffer : List ℕ) (i v c : ℕ) where
       let p = route-clear R W (length buffer) i v c n e in
       let q = cleared R W (length buffer) i v c (p .0) in
       let w = whole-walks (chain R W i v c) (chain-sound R W i v c) (q .unbroken) in
-      let m = q .roomy in
+      let m = q .placed .roomy in
       let h = w .short in
-      let k = layer-asked (R .hops) (R .nodes) (cells R) i v c (q .inside) in
+      let k = layer-asked (R .hops) (R .nodes) (cells R) i v c (q .placed .inside) in
       record {
         walk = w .walk;
         short = w .short;
@@ -213,7 +215,7 @@ module _ (R : Req) (ok : Accepted R) (W buffer : List ℕ) (front : Fronts R W) 
       let e = table-whole R regular W front i v c hi hv hc full in
       let s : arcsOf (chain R W i v c) ≡ route R i v c = ap arcsOf e in
       let inside = or-neither (ltb (R .hops) i || leb (R .nodes) v) (leb (cells R) c) (or-neither (ltb (R .hops) i) (leb (R .nodes) v) (lt-fails hi) (le-fails hv)) (le-fails hc) in
-      route-all R W buffer i v c (chain-whole R W (length buffer) i v c ok long-enough roomy inside filled-in (route R i v c) e)
+      route-all R W buffer i v c (chain-whole R W (length buffer) i v c (record { accepted = ok; long = long-enough; roomy = roomy; inside = inside }) filled-in (route R i v c) e)
       (length (route R i v c)) (ap length (sym s)) (three (costs R (labelAt R i v c))) (write buffer 0 (route R i v c))
       (ap (λ (l : List ℕ). three (costs R l)) (sym (label-in R regular W front i v c hi hv hc))) (ap (write buffer 0) (sym s))
 

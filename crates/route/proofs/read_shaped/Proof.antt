@@ -1,20 +1,20 @@
 -- `read_shaped`: rows 13 to 16 one after another, and then the route. Assumes nothing.
 use Prim.Native.Nat.{ℕ, _≤_}
-use mathlib.Core.Path.{_≡_, sym, _∙_}
+use mathlib.Core.Path.{_≡_, sym, ap, _∙_}
 use mathlib.Core.Bool.{true, false}
 use mathlib.Core.List.{List}
 use native.Mathlib.Omega.{arith}
 use lib.ListN.{length}
-use Rattle.words.specs.Rows.{Weighed, clear, refused, weigh}
+use Rattle.words.specs.Rows.{Weighed, refused, weigh}
 use Rattle.request.specs.Request.{Req, asked, reach}
+use Rattle.request.specs.Shape.{cells}
 use Rattle.request.proofs.Accepted.{accepted-regular, accepted-small, accepted-fits}
 use Rattle.rounds.specs.Label.{costs, step}
 use Rattle.route.specs.Chain.{labelIn, Chain, chain}
-use Rattle.route.specs.Links.{trailOf}
 use Rattle.route.specs.Answer.{backRows}
-use Rattle.route.specs.declared.Trail.the-variants as trail
-use Rattle.route.proofs.Answering.{other, refused-all, empty-all, route-all}
-use Rattle.route.proofs.Reading.{was-broken, was-whole, broken-leaves, three-costs, cells-is, words-fit, within, at-labels, at-route, at-beyond, inside-layer, asked-label, at-empty, at-broken, at-whole}
+use Rattle.route.proofs.Leading.{label-is}
+use Rattle.route.proofs.Answering.{layer-asked, Placed, empty-cell, chain-broken, chain-whole, other, refused-all, empty-all, route-all}
+use Rattle.route.proofs.Reading.{was-broken, was-whole, broken-leaves, three-costs, cells-is, words-fit, within, at-labels, at-route, at-beyond, placed}
 use borrow.Author.Needs.{needs}
 use Rattle.route.proofs.read_shaped.Statement.{statement}
 use Rattle.route.proofs.read_shaped.Tie as tie
@@ -50,50 +50,35 @@ module _ (c : tie.After-beyond) where
       at-beyond (a .request) (a .arcs .now) (s .pre .0) (a .shape) (s .pre .1) (W s) (length (B s)) (a .layer) (a .node) (a .cell)
       (c .before .before .before .if1 .left) (c .before .if2 .left) _ (c .beyond .ensures) t
 
-  layer-in : c .beyond .result ≡ false → start-of .args .layer ≤ start-of .args .request .hops
-  layer-in f =
+  is-placed : c .beyond .result ≡ false → Placed (R start-of) (W start-of) (length (B start-of)) (start-of .args .layer) (start-of .args .node) (start-of .args .cell)
+  is-placed f =
       let s = start-of in
       let a = s .args in
-      inside-layer (a .request) (a .arcs .now) (s .pre .0) (a .shape) (s .pre .1) (W s) (length (B s)) (a .layer) (a .node) (a .cell)
+      placed (a .request) (a .arcs .now) (s .pre .0) (a .shape) (s .pre .1) (W s) (length (B s)) (a .layer) (a .node) (a .cell)
       (c .before .before .before .if1 .left) (c .before .if2 .left) _ (c .beyond .ensures) f
 
--- once the label's step is read
+  layer-in : c .beyond .result ≡ false → start-of .args .layer ≤ start-of .args .request .hops
+  layer-in f = let a = start-of .args in layer-asked (a .request .hops) (a .request .nodes) (cells (R start-of)) (a .layer) (a .node) (a .cell) (is-placed f .inside)
+
+-- once the label's step is read: the label is the one that was asked for
 module _ (c : tie.After-word) where
-  abbrev placed : tie.After-beyond
-  placed = c .before .before .before
+  abbrev found : tie.After-beyond
+  found = c .before .before .before
 
-  own-label : c .before .label .result .now ≡ labelIn (R (start-of placed)) (W (start-of placed)) (start-of placed .args .layer) (start-of placed .args .node) (start-of placed .args .cell)
-  unfolding step
+  abbrev start : tie.Start
+  start = start-of found
+
+  is-there : Placed (R start) (W start) (length (B start)) (start .args .layer) (start .args .node) (start .args .cell)
+  is-there = is-placed found (c .before .before .if3 .left)
+
+  own-label : c .before .label .result .now ≡ labelIn (R start) (W start) (start .args .layer) (start .args .node) (start .args .cell)
   own-label =
-      let s = start-of placed in
-      let a = s .args in
-      asked-label (a .request) (a .arcs .now) (s .pre .0) (a .shape) (s .pre .1) (W s) (length (B s)) (a .layer) (a .node) (a .cell)
-      (placed .before .before .before .if1 .left) (placed .before .if2 .left) _ (placed .beyond .ensures) (c .before .before .if3 .left) _ (c .before .label .ensures) (c .word .result) (c .word .ensures)
+      let a = start .args in
+      label-is (R start) (W start) _ (a .shape .cells) (a .layer) (a .node) (a .cell) (cells-is (a .request) (a .arcs .now) (start .pre .0) (a .shape) (start .pre .1)) (c .before .label .ensures)
 
-  empty-refused : c .word .result ≡ 0 → weighed (start-of placed) ≡ refused 15 0
+  own-step : c .word .result ≡ step (R start) (labelIn (R start) (W start) (start .args .layer) (start .args .node) (start .args .cell))
   unfolding step
-  empty-refused z =
-      let s = start-of placed in
-      let a = s .args in
-      at-empty (a .request) (a .arcs .now) (s .pre .0) (a .shape) (s .pre .1) (W s) (length (B s)) (a .layer) (a .node) (a .cell)
-      (placed .before .before .before .if1 .left) (placed .before .if2 .left) _ (placed .beyond .ensures) (c .before .before .if3 .left) _ (c .before .label .ensures) (c .word .result) (c .word .ensures) z
-
-  module _ (some : c .word .result ≡ 0 → ⊥) where
-    broken-refused : (j : ℕ) → trail.Broke j ≡ trailOf (chain-of (start-of placed)) → weighed (start-of placed) ≡ refused 16 j
-    unfolding step
-    broken-refused j h =
-        let s = start-of placed in
-        let a = s .args in
-        at-broken (a .request) (a .arcs .now) (s .pre .0) (a .shape) (s .pre .1) (W s) (length (B s)) (a .layer) (a .node) (a .cell)
-        (placed .before .before .before .if1 .left) (placed .before .if2 .left) _ (placed .beyond .ensures) (c .before .before .if3 .left) _ (c .before .label .ensures) (c .word .result) (c .word .ensures) some j h
-
-    whole-clear : (n : ℕ) → trail.Whole n ≡ trailOf (chain-of (start-of placed)) → weighed (start-of placed) ≡ clear
-    unfolding step
-    whole-clear n h =
-        let s = start-of placed in
-        let a = s .args in
-        at-whole (a .request) (a .arcs .now) (s .pre .0) (a .shape) (s .pre .1) (W s) (length (B s)) (a .layer) (a .node) (a .cell)
-        (placed .before .before .before .if1 .left) (placed .before .if2 .left) _ (placed .beyond .ensures) (c .before .before .if3 .left) _ (c .before .label .ensures) (c .word .result) (c .word .ensures) some n h
+  own-step = c .word .ensures ∙ ap (step (R start)) own-label
 
 -- ---- the needs
 
@@ -163,9 +148,10 @@ no-route-requires c κs = search needs
 returns-4 : tie.Need-returns-4
 returns-4 c =
     let k = c .before .before in
-    let s = start-of (placed k) in
+    let s = start k in
     let a = s .args in
-    empty-all (R s) (W s) (B s) (a .layer) (a .node) (a .cell) _ _ (c .no-route .ensures .1) (empty-refused k (c .before .if4 .taken)) (c .no-route .ensures .0)
+    let w = empty-cell (R s) (W s) (length (B s)) (a .layer) (a .node) (a .cell) (is-there k) (sym (own-step k) ∙ c .before .if4 .taken) in
+    empty-all (R s) (W s) (B s) (a .layer) (a .node) (a .cell) _ _ (c .no-route .ensures .1) w (c .no-route .ensures .0)
 
 cost-requires : tie.Need-cost-requires
 cost-requires c κs = search needs
@@ -202,11 +188,12 @@ returns-5 c =
     let f = c .before .before .before .before .before .before in
     let i = f .before .before .before .before .before in
     let k = i .before in
-    let s = start-of (placed k) in
+    let s = start k in
     let a = s .args in
-    let h = sym (c .before .before .trail .given .1) ∙ f .follow .ensures .0 in
-    let r = refused-all (R s) (W s) (B s) (a .layer) (a .node) (a .cell) _ _ (c .refuse4 .ensures .1) 16 _ (broken-refused k (i .if4 .left) _ h) (other tt) (c .refuse4 .ensures .0) in
-    (r .0, (r .1 .0, broken-leaves (B s) _ (chain-of s) _ (f .follow .ensures .1) (was-broken (chain-of s) _ h) ∙ r .1 .1))
+    let b = was-broken (chain-of s) _ (sym (c .before .before .trail .given .1) ∙ f .follow .ensures .0) in
+    let w = chain-broken (R s) (W s) (length (B s)) (a .layer) (a .node) (a .cell) (is-there k) (λ z. i .if4 .left (own-step k ∙ z)) _ b in
+    let r = refused-all (R s) (W s) (B s) (a .layer) (a .node) (a .cell) _ _ (c .refuse4 .ensures .1) 16 _ w (other tt) (c .refuse4 .ensures .0) in
+    (r .0, (r .1 .0, broken-leaves (B s) _ (chain-of s) _ (f .follow .ensures .1) b ∙ r .1 .1))
 
 same-length-2 : tie.Need-same-length-2
 same-length-2 c = search needs
@@ -218,11 +205,12 @@ returns-6 c =
     let g = f .before .before in
     let i = g .before .before .before in
     let k = i .before in
-    let s = start-of (placed k) in
+    let s = start k in
     let a = s .args in
-    let h = sym (c .before .trail2 .given .1) ∙ f .follow .ensures .0 in
+    let h = was-whole (chain-of s) _ (sym (c .before .trail2 .given .1) ∙ f .follow .ensures .0) in
+    let w = chain-whole (R s) (W s) (length (B s)) (a .layer) (a .node) (a .cell) (is-there k) (λ z. i .if4 .left (own-step k ∙ z)) _ (h .0) in
     let x = three-costs (R s) _ (labelIn (R s) (W s) (a .layer) (a .node) (a .cell)) _ _ _ (own-label k) (g .before .before .cost .ensures) (g .before .cost2 .ensures) (g .cost3 .ensures) in
-    route-all (R s) (W s) (B s) (a .layer) (a .node) (a .cell) (whole-clear k (i .if4 .left) _ h) _ (was-whole (chain-of s) _ h .1) _ _ x (f .follow .ensures .1)
+    route-all (R s) (W s) (B s) (a .layer) (a .node) (a .cell) w _ (h .1) _ _ x (f .follow .ensures .1)
 
 pub read-shaped-spec : {M : Type 1} → statement M
 read-shaped-spec =
