@@ -34,7 +34,7 @@ abbrev pub Near : Req → ℕ → ℕ → ℕ → ℕ → Type 0
 Near R h j x y = y * ratioQ R j ^ h ≤ (ratioP R j + ratioQ R j) ^ h * x
 
 module _ (R : Req) (ok : Regular R) where
-  pub near-carries : Carries R (Near R)
+  near-carries : Carries R (Near R)
   near-carries = record {
     first = λ j y l e.
         let q : ℕ = ratioQ R j in

@@ -39,7 +39,8 @@ module _ (R : Req) (ok : Regular R) where
       (subst (λ (z : ℕ). Rooted R [] 0 (R .source) z (at (width R) (startBlock R (R .source)) z)) (sym (p .1))
       (subst (λ (z : List ℕ). Rooted R [] 0 (R .source) 0 z) (sym (start-label R ok)) start-rooted)))
 
-  block-whole : (i v : ℕ) → v < R .nodes → length (block R (layer R i) v) ≡ span R
+  -- a node has so many words in a layer, and each of its labels d+2
+  pub block-whole : (i v : ℕ) → v < R .nodes → length (block R (layer R i) v) ≡ span R
   unfolding block
   block-whole i v hv = at-length (span R) (layer R i) (R .nodes) (layer-length R ok i) v hv
 

@@ -51,7 +51,7 @@ module _ {κ} (R : Req) (P : List ℕ → ℕ → Type κ)
 
 -- ---- a walk within the reach is under the ladder tops
 
-pub under-sums : (R : Req) (ws : List ℕ) (v : ℕ) → Walk R (R .source) ws v → length ws ≤ reach R → UnderTop R (sums R ws)
+under-sums : (R : Req) (ws : List ℕ) (v : ℕ) → Walk R (R .source) ws v → length ws ≤ reach R → UnderTop R (sums R ws)
 unfolding sums UnderTop top
 under-sums R ws v h l j _ =
     omega (arith, sums-le R j (R .source) v (replicate (R .criteria) 0) ws h, zero-costs R j, mul-le-mul-right (largest R j) l)

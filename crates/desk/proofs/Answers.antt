@@ -1,11 +1,11 @@
 -- The reader's and the writer's answers have room in a packed number. Assumes nothing.
-use Prim.Native.Nat.{ℕ, suc, _+_, _≤_, _<_}
+use Prim.Native.Nat.{ℕ, suc, _+_, _≤_}
 use mathlib.Core.Path.{_≡_, refl, ap}
 use mathlib.Core.List.{List, [], _∷_}
 use native.Mathlib.Omega.{arith}
 use lib.ListN.{length, length-append}
 use lib.Dec.{eqb, ltb, nltb→le}
-use Rattle.words.specs.Rows.{Weighed, clear, refused, weigh}
+use Rattle.words.specs.Rows.{Weighed}
 use Rattle.words.proofs.Choices.{cond-cases}
 use Rattle.request.specs.declared.Request.{Request}
 use Rattle.sheet.specs.Grammar.{Contents, whole, broken, lf, sheetOf}
@@ -17,13 +17,7 @@ use Rattle.sheet.proofs.Clear.{writable}
 use Rattle.sheet.proofs.FirstBad.{first-bad-line}
 use Rattle.listing.proofs.Rooms.{words-few}
 use Rattle.desk.specs.Packed.{Answer}
-use Rattle.desk.proofs.Sound.{Room, Sound, sound-refused, sound-append}
-
--- an answer by a table: its refusals have room, and its count where no row holds
-pub told-answer : (w : Weighed) (n : ℕ) → ((number place : ℕ) → w ≡ refused number place → Room number place) → (w ≡ clear → n < 4294967296) → Answer (told w n)
-unfolding Answer
-told-answer clear n f g = (refl, refl, g refl, refl)
-told-answer (refused number place) n f g = let r = f number place refl in (r .some, r .few, r .near)
+use Rattle.desk.proofs.Sound.{Sound, sound-listed, sound-more, table-answer, refusal-said}
 
 -- ---- the reader
 
@@ -55,37 +49,18 @@ form-sound s = (
 )
 
 reader-sound : (s : List ℕ) (room : ℕ) → Sound (readerRows s room)
-reader-sound s room =
-    sound-append (formRows s) (record { number = 13; holds = ltb room (length (wordsOf (sheetOf s))); place = 1 } ∷ []) (form-sound s)
-    (λ _. (λ _. record { some = omega arith; few = omega arith; near = omega arith }, λ _. tt))
+reader-sound s room = sound-more (formRows s) (record { number = 13; holds = ltb room (length (wordsOf (sheetOf s))); place = 1 } ∷ []) (form-sound s) tt
 
 pub read-answer : (s : List ℕ) (room : ℕ) → Answer (readSays s room)
 unfolding readSays
 read-answer s room =
-    told-answer (weigh (readerRows s room)) (length (wordsOf (sheetOf s)))
-    (λ number place e. sound-refused (readerRows s room) number place (reader-sound s room) e)
-    (λ _. omega (arith, words-few s))
+    let n = length (wordsOf (sheetOf s)) in
+    table-answer (λ (w : Weighed). told w n) n refl refusal-said (readerRows s room) (reader-sound s room) (λ _. omega (arith, words-few s))
 
 -- ---- the writer
-
-writer-sound : (r : Request) (words : List ℕ) (room : ℕ) → Sound (writerRows r words room)
-writer-sound r words room = (
-  λ _. record { some = omega arith; few = omega arith; near = omega arith },
-  λ _. (
-    λ _. record { some = omega arith; few = omega arith; near = omega arith },
-    λ _. (
-      λ _. record { some = omega arith; few = omega arith; near = omega arith },
-      λ _. (
-        λ _. record { some = omega arith; few = omega arith; near = omega arith },
-        λ _. (λ _. record { some = omega arith; few = omega arith; near = omega arith }, λ _. tt),
-      ),
-    ),
-  ),
-)
 
 pub write-answer : (r : Request) (words : List ℕ) (room : ℕ) → Answer (writeSays r words room)
 unfolding writeSays
 write-answer r words room =
-    told-answer (weigh (writerRows r words room)) (length (written r words))
-    (λ number place e. sound-refused (writerRows r words room) number place (writer-sound r words room) e)
-    (λ e. omega (arith, writable r words room e .short))
+    let n = length (written r words) in
+    table-answer (λ (w : Weighed). told w n) n refl refusal-said (writerRows r words room) (sound-listed (writerRows r words room) tt) (λ e. omega (arith, writable r words room e .short))

@@ -3,21 +3,13 @@ use Prim.Native.Nat.{ℕ}
 use mathlib.Core.Path.{_≡_, refl}
 use mathlib.Core.List.{List}
 use native.Mathlib.Omega.{arith}
-use lib.Dec.{eqb}
 use Rattle.words.specs.Rows.{Weighed, clear, refused, weigh, settle}
-use Rattle.words.proofs.Choices.{cond-cases}
 use Rattle.request.specs.declared.Refusal.{Refusal}
 use Rattle.request.specs.Request.{Req}
-use Rattle.route.specs.Answer.{backRows, refusal, ended, endingOf, costsAfter}
-use Rattle.route.specs.declared.Ending.{Ending}
+use Rattle.route.specs.Answer.{backRows, ended, endingOf, costsAfter}
 use Rattle.route.specs.declared.Ending.the-variants as ending
+use Rattle.route.proofs.Promises.{no-route}
 use Rattle.desk.specs.Calls.{costsLent}
-
--- a number and its place are no route
-no-route : (n p m : ℕ) → refusal n p ≡ ending.Route m → ⊥
-unfolding refusal
-no-route n p m =
-    cond-cases (λ (x : Ending). x ≡ ending.Route m → ⊥) (eqb n 15) (λ _ e. let z : _≡_ {A = ℕ} 0 1 = cc in absurd (omega arith)) (λ _ e. let z : _≡_ {A = ℕ} 0 1 = cc in absurd (omega arith))
 
 module _ (x y : List ℕ) where
   settled-refusal : (w : Weighed) (n : ℕ) (r : Refusal) → ended w n ≡ ending.Refused r → y ≡ settle w x y

@@ -8,7 +8,7 @@ use lib.ListN.{length, getD}
 use lib.Dec.{T, leb, ltb}
 use Rattle.words.specs.Loops.{any}
 use Rattle.words.specs.Pieces.{at}
-use Rattle.words.specs.Rows.{Weighed, clear, refused, weigh, each}
+use Rattle.words.specs.Rows.{Weighed, clear, weigh, each}
 use Rattle.words.proofs.Rows.{weigh-clear-front}
 use Rattle.words.proofs.Choices.{cond-cases}
 use Rattle.request.specs.declared.Request.{Request}
@@ -21,22 +21,13 @@ use Rattle.table.specs.Build.{buildRows, answer, builtOf}
 use Rattle.listing.proofs.Rooms.{tries-few}
 use Rattle.desk.specs.Packed.{Answer}
 use Rattle.desk.specs.Calls.{builtSaid}
-use Rattle.desk.proofs.Sound.{Room, Sound, sound-refused, sound-append, sound-each}
+use Rattle.desk.proofs.Sound.{Room, Sound, sound-append, sound-each, sound-listed, sound-more, table-answer, refusal-said}
 
 -- ---- the rows
 
 sizes-sound : (n d s k : ℕ) → Sound (sizeRows n d s k)
 unfolding sizeRows
-sizes-sound n d s k = (
-  λ _. record { some = omega arith; few = omega arith; near = omega arith },
-  λ _. (
-    λ _. record { some = omega arith; few = omega arith; near = omega arith },
-    λ _. (
-      λ _. record { some = omega arith; few = omega arith; near = omega arith },
-      λ _. (λ _. record { some = omega arith; few = omega arith; near = omega arith }, λ _. tt),
-    ),
-  ),
-)
+sizes-sound n d s k = sound-listed (sizeRows n d s k) tt
 
 ratio-room : (ratios : List ℕ) (j : ℕ) → j < 2 → Room (ratioRow ratios j .number) (ratioRow ratios j .place)
 unfolding ratioRow
@@ -111,11 +102,7 @@ module _ (q : Request) (arcs : List ℕ) where
   build-sound : (a b : ℕ) → Sound (buildRows (asked q arcs) a b)
   unfolding buildRows
   build-sound a b =
-      sound-append (rows R) _ rows-sound
-      (λ _. (
-        λ _. record { some = omega arith; few = omega arith; near = omega arith },
-        λ _. (λ _. record { some = omega arith; few = omega arith; near = omega arith }, λ _. tt),
-      ))
+      sound-more (rows R) _ rows-sound tt
 
   -- ---- the tries
 
@@ -124,15 +111,8 @@ module _ (q : Request) (arcs : List ℕ) where
   build-clear a b e = weigh-clear-front (rows R) _ e
 
 pub built-answer : (q : Request) (arcs : List ℕ) (a b : ℕ) → Answer (builtSaid (builtOf (asked q arcs) a b))
-unfolding Answer builtOf
+unfolding builtOf
 built-answer q arcs a b =
-    go (weigh (buildRows R a b))
-    (λ n p e. sound-refused (buildRows R a b) n p (build-sound q arcs a b) e)
-    (λ e. omega (arith, (let ok = build-clear q arcs a b e in tries-few R (accepted-regular R ok) (accepted-small R ok) (accepted-fits R ok))))
-  where
-    R : Req
-    R = asked q arcs
-
-    go : (w : Weighed) → ((n p : ℕ) → w ≡ refused n p → Room n p) → (w ≡ clear → tries R (R .hops) < 4294967296) → Answer (builtSaid (answer w (tries R (R .hops))))
-    go clear f g = (refl, refl, g refl, refl)
-    go (refused n p) f g = let r = f n p refl in (r .some, r .few, r .near)
+    let n = tries (asked q arcs) (q .hops) in
+    table-answer (λ (w : Weighed). builtSaid (answer w n)) n refl refusal-said (buildRows (asked q arcs) a b) (build-sound q arcs a b)
+    (λ e. let ok = build-clear q arcs a b e in omega (arith, tries-few (asked q arcs) (accepted-regular (asked q arcs) ok) (accepted-small (asked q arcs) ok) (accepted-fits (asked q arcs) ok)))

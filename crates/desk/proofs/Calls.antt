@@ -3,12 +3,12 @@ use Prim.Native.Nat.{ℕ, _<_}
 use mathlib.Core.Path.{_≡_, sym, ap, _∙_, subst}
 use mathlib.Core.List.{List, [], _∷_}
 use lib.ListN.{length}
-use Rattle.words.specs.Rows.{Weighed, weigh}
+use Rattle.words.specs.Rows.{Weighed, weigh, settle}
 use Rattle.request.specs.declared.Refusal.{Refusal}
 use Rattle.sheet.specs.declared.Outcome.{Outcome}
 use Rattle.sheet.specs.declared.Outcome.the-variants as outcome
 use Rattle.sheet.specs.Grammar.{sheetOf}
-use Rattle.sheet.specs.Answer.{refusalSaid, unlessRefused}
+use Rattle.sheet.specs.Answer.{refusalSaid}
 use Rattle.sheet.specs.Reader.{said, wordsOf, readerRows, readSays, readRequest}
 use Rattle.sheet.proofs.Clear.{told-clear}
 use Rattle.sheet.proofs.Told.{read-refused-told}
@@ -44,11 +44,11 @@ module _ (s arcs words : List ℕ) (o : Outcome) (e : said o ≡ readSays s (len
   unfolding requestAfter
   request-left r q =
       let w = read-refused-told s arcs r (read-says-refusal r q) .0 in
-      sym (ap (λ (x : Weighed). unlessRefused x (requestWords (readRequest s (length arcs))) words) w)
+      sym (ap (λ (x : Weighed). settle x (requestWords (readRequest s (length arcs))) words) w)
 
   -- a sheet fills them
   pub request-filled : (n : ℕ) → o ≡ outcome.Sheet n → requestWords (readRequest s (length arcs)) ≡ requestAfter s (length arcs) words
   unfolding requestAfter readSays
   request-filled n q =
       let w = told-clear (weigh (readerRows s (length arcs))) (length (wordsOf (sheetOf s))) n (sym (read-says-count n q)) .0 in
-      sym (ap (λ (x : Weighed). unlessRefused x (requestWords (readRequest s (length arcs))) words) w)
+      sym (ap (λ (x : Weighed). settle x (requestWords (readRequest s (length arcs))) words) w)

@@ -5,7 +5,7 @@ use mathlib.Core.List.{List}
 use native.Mathlib.Omega.{arith}
 use lib.ListN.{length}
 use lib.Dec.{nltb→le}
-use Rattle.words.specs.Rows.{Weighed, clear, refused, weigh}
+use Rattle.words.specs.Rows.{Weighed, clear, weigh}
 use Rattle.words.proofs.Rows.{weigh-clear-front, weigh-clear-back, clear-cons}
 use Rattle.request.specs.declared.Request.{Request}
 use Rattle.request.specs.Request.{asked, width}
@@ -17,18 +17,13 @@ use Rattle.sheet.specs.Reader.{wordsOf, requestOf, formRows}
 use Rattle.listing.specs.List.{asks, listingOf, requestRows, listRows, answer, listedOf, said}
 use Rattle.listing.proofs.Suffices.{listing-few}
 use Rattle.desk.specs.Packed.{Answer}
-use Rattle.desk.proofs.Sound.{Room, Sound, sound-refused, sound-append}
+use Rattle.desk.proofs.Sound.{Sound, sound-append, sound-more, table-answer, refusal-said}
 use Rattle.desk.proofs.Answers.{form-sound}
 use Rattle.desk.proofs.Builds.{rows-sound}
 
 request-sound : (q : Request) (arcs : List ℕ) (room : ℕ) → Sound (requestRows (asked q arcs) room)
 unfolding requestRows
-request-sound q arcs room =
-    sound-append (rows (asked q arcs)) _ (rows-sound q arcs)
-    (λ _. (
-      λ _. record { some = omega arith; few = omega arith; near = omega arith },
-      λ _. (λ _. record { some = omega arith; few = omega arith; near = omega arith }, λ _. tt),
-    ))
+request-sound q arcs room = sound-more (rows (asked q arcs)) _ (rows-sound q arcs) tt
 
 list-sound : (s : List ℕ) (room : ℕ) → Sound (listRows s room)
 unfolding listRows asks
@@ -47,10 +42,7 @@ listing-short s room e =
     )
 
 pub list-answer : (s : List ℕ) (room : ℕ) → Answer (said (listedOf s room))
-unfolding Answer listedOf
+unfolding listedOf
 list-answer s room =
-    go (weigh (listRows s room)) (λ n p e. sound-refused (listRows s room) n p (list-sound s room) e) (listing-short s room)
-  where
-    go : (w : Weighed) → ((n p : ℕ) → w ≡ refused n p → Room n p) → (w ≡ clear → length (listingOf (asks s)) < 4294967296) → Answer (said (answer w (length (listingOf (asks s)))))
-    go clear f g = (refl, refl, g refl, refl)
-    go (refused n p) f g = let r = f n p refl in (r .some, r .few, r .near)
+    let n = length (listingOf (asks s)) in
+    table-answer (λ (w : Weighed). said (answer w n)) n refl refusal-said (listRows s room) (list-sound s room) (listing-short s room)

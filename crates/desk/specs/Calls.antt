@@ -8,7 +8,7 @@ use Rattle.request.specs.Request.{Req}
 use Rattle.route.specs.Answer.{backRows, costsAfter}
 use Rattle.route.specs.declared.Ending.{Ending}
 use Rattle.route.specs.declared.Ending.the-variants as ending
-use Rattle.sheet.specs.Answer.{refusalSaid, unlessRefused}
+use Rattle.sheet.specs.Answer.{refusalSaid}
 use Rattle.sheet.specs.Reader.{readerRows, readRequest}
 use Rattle.table.specs.declared.Built.{Built}
 use Rattle.table.specs.declared.Built.the-variants as built
@@ -30,7 +30,7 @@ requestWords r =
 
 -- the lent request words after the reader: those of the sheet, and on a refusal as they came
 unfoldable pub requestAfter : List ℕ → ℕ → List ℕ → List ℕ
-requestAfter s room words = unlessRefused (weigh (readerRows s room)) (requestWords (readRequest s room)) words
+requestAfter s room words = settle (weigh (readerRows s room)) (requestWords (readRequest s room)) words
 
 -- a table that was built has no number (0), no place (0) and the sum of all tries; a refusal its number and place
 abbrev pub builtSaid : Built → List ℕ

@@ -23,7 +23,7 @@ pub fn add_costs(out: &mut [u32], lab: &[u32], arc: &[u32], d: usize, step: u32,
 }
 
 // Whether a candidate takes a cell's place: the cell is empty, or holds a strictly larger last cost.
-pub fn wins(cand: &[u32], cell: &[u32], d: usize) -> bool
+fn wins(cand: &[u32], cell: &[u32], d: usize) -> bool
     requires { ⌜ (length (now cand) ≡ d + 2) × (length (now cell) ≡ d + 2) × (1 ≤ d) ⌝ }
     ensures { λ r. ⌜ r ≡ winsOver d (now (cand .entry)) (now (cell .entry)) ⌝ }
 {

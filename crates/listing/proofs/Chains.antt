@@ -1,5 +1,5 @@
--- The arcs of a label's chain: no more than its layer's number, and none over M. Assumes nothing.
-use Prim.Native.Nat.{ℕ, _≤_, zero-le}
+-- The arcs of a label's chain: how many are answered, and none over M. Assumes nothing.
+use Prim.Native.Nat.{ℕ}
 use mathlib.Core.Path.{_≡_, refl}
 use mathlib.Core.List.{List, [], _∷_}
 use native.Mathlib.Omega.{arith}
@@ -26,15 +26,7 @@ walk-arcs R u v [] h = atMost-none (arcCount R)
 walk-arcs R u v (a ∷ ws) h = let l = h .0 in atMost-cons (arcCount R) a ws (omega arith) (walk-arcs R (head R a) v ws (h .2))
 
 module _ (R : Req) (W : List ℕ) (i v c : ℕ) where
-  -- no more arcs than the layer's number
-  pub chain-short : length (arcsOf (chain R W i v c)) ≤ i
-  chain-short = go (chain R W i v c) (chain-sound R W i v c)
-    where
-      go : (k : Chain) → Sound R W i v c k → length (arcsOf k) ≤ i
-      go (whole ws) s = s .1 .short
-      go (broken j) s = zero-le
-
-  -- and none over M
+  -- the arcs of a chain are none over M
   pub chain-arcs : AtMost (arcCount R) (arcsOf (chain R W i v c))
   chain-arcs = go (chain R W i v c) (chain-sound R W i v c)
     where

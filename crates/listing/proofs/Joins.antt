@@ -6,8 +6,7 @@ use native.Mathlib.Omega.{arith}
 use lib.ListN.{length, length-append}
 use Rattle.words.specs.Pieces.{write, join}
 use Rattle.words.proofs.Pieces.{join-zero, join-next, join-add}
-use Rattle.words.proofs.Writes.{write-append}
-use Rattle.text.proofs.Fields.{write-none}
+use Rattle.words.proofs.Writes.{write-append, write-none}
 
 module _ (f : ℕ → List ℕ) where
   -- the next ends so many bytes on

@@ -14,21 +14,16 @@ use Rattle.words.proofs.Bounds.{atMost-at, atMost-drop}
 use Rattle.text.specs.Number.{digits}
 use Rattle.text.specs.Line.{partedWidth, lineText}
 use Rattle.text.proofs.Fields.{lt-or-le}
-use Rattle.text.proofs.Digits.{width-small, width-within}
-use Rattle.text.proofs.Puts.{width-append}
+use Rattle.text.proofs.Digits.{width-within, width-one}
+use Rattle.text.proofs.Puts.{width-append, line-width}
 use Rattle.sheet.specs.Grammar.{tab}
 use Rattle.listing.specs.Listing.{labelWord}
-use Rattle.listing.proofs.Lines.{line-wide}
 
 -- ---- digits
 
--- below 10
-one-digit : (n : ℕ) → n < 10 → length (digits n) ≤ 1
-one-digit n h = omega (arith, width-small n h)
-
 -- below 100
-pub two-digits : (n : ℕ) → n < 100 → length (digits n) ≤ 2
-two-digits n h = width-within 1 10 one-digit n (omega arith)
+two-digits : (n : ℕ) → n < 100 → length (digits n) ≤ 2
+two-digits n h = width-within 1 10 width-one n (omega arith)
 
 -- below 1,000
 pub three-digits : (n : ℕ) → n < 1000 → length (digits n) ≤ 3
@@ -41,7 +36,7 @@ eight-digits n h =
 
 -- 0 has one
 pub no-digits : (n : ℕ) → n ≤ 0 → length (digits n) ≤ 1
-no-digits n h = one-digit n (omega arith)
+no-digits n h = width-one n (omega arith)
 
 -- ---- numbers
 
@@ -61,7 +56,7 @@ numbers-width v n cs ws = ap (λ (k : ℕ). 1 + length (digits v) + k) (width-ap
 pub line-le : (v n d w K : ℕ) (cs ws : List ℕ) → v < 100 → n < 100 → partedWidth cs ≤ d * (w + 1) → partedWidth ws ≤ K * 4
     → length (lineText tab labelWord (v ∷ cs ++ n ∷ ws)) ≤ 12 + d * (w + 1) + K * 4
 line-le v n d w K cs ws hv hn hc hw =
-    omega (arith, line-wide labelWord (v ∷ cs ++ n ∷ ws), numbers-width v n cs ws, two-digits v hv, two-digits n hn)
+    omega (arith, line-width tab labelWord (v ∷ cs ++ n ∷ ws), numbers-width v n cs ws, two-digits v hv, two-digits n hn)
 
 -- texts of at most b bytes each
 pub join-le : (f : ℕ → List ℕ) (b n : ℕ) → ((k : ℕ) → k < n → length (f k) ≤ b) → length (join f n) ≤ n * b

@@ -1,38 +1,23 @@
 -- The lines of a listing: a label's, where it is filled and where it is empty, and how long they are. Assumes nothing.
-use Prim.Native.Nat.{ℕ, _+_, _≤_, _<_}
+use Prim.Native.Nat.{ℕ, _≤_, _<_}
 use mathlib.Core.Path.{_≡_, refl, sym, ap, _∙_}
-use mathlib.Core.Bool.{Bool, true, false, not}
+use mathlib.Core.Bool.{true, false}
 use mathlib.Core.List.{List, [], _∷_}
 use native.Mathlib.Omega.{arith}
-use lib.ListN.{length, take, length-append}
+use lib.ListN.{length, take, replicate, length-append, length-replicate}
 use Rattle.words.specs.Pieces.{write}
-use Rattle.words.proofs.Writes.{part-write-same}
-use Rattle.text.specs.Line.{partedWidth, lineText}
-use Rattle.text.proofs.Puts.{parted-width, line-length}
+use Rattle.words.proofs.Writes.{length-write, part-write-same}
+use Rattle.text.specs.Line.{lineText}
 use Rattle.request.specs.declared.Request.{Request}
 use Rattle.request.specs.Request.{Req, asked}
 use Rattle.sheet.specs.Grammar.{tab}
 use Rattle.rounds.specs.Label.{costs, filled}
 use Rattle.route.specs.Chain.{chain}
 use Rattle.route.specs.Answer.{arcsOf}
+use Rattle.route.proofs.Sound.{chain-short}
 use Rattle.listing.specs.Print.{Tabled}
-use Rattle.listing.proofs.Chains.{chain-short}
 use Rattle.listing.proofs.Places.{costs-long}
 use Rattle.listing.specs.Listing.{labelWord, lastLabel, lastRoute, filledAt, labelNumbers, labelLine}
-
--- a line's length: its word, its numbers and its LF
-pub line-wide : (word vs : List ℕ) → length (lineText tab word vs) ≡ length word + partedWidth vs + 1
-line-wide word vs = line-length tab word vs ∙ ap (λ (k : ℕ). length word + k + 1) (parted-width tab vs)
-
--- a test, of one that came out otherwise
-pub not-true : (b : Bool) → not b ≡ true → b ≡ false
-not-true true e = sym e
-not-true false e = refl
-
--- and the other way round
-pub not-false : (b : Bool) → not b ≡ false → b ≡ true
-not-false true e = refl
-not-false false e = sym e
 
 module _ (R : Req) (W : List ℕ) (v c : ℕ) where
   -- an empty label counts for nothing and has no line
@@ -45,17 +30,28 @@ module _ (R : Req) (W : List ℕ) (v c : ℕ) where
   unfolding filledAt labelLine
   filled-label e = (rw e refl, rw e refl)
 
+-- numbers vs stored in 68 words, which then are ys: there is room for them, and the first n words are they
+pub record Stored (vs ys : List ℕ) (n : ℕ) : Type 0 where
+  pub few : length vs ≤ 68
+  pub long : length ys ≡ 68
+  pub front : take n ys ≡ vs
+  pub count : n ≡ length (take n ys)
+
 -- a label has at most 68 numbers: the node, three costs, the arc count and 63 arcs
 module _ (q : Request) (arcs W : List ℕ) (C : ℕ) (ok : Tabled (asked q arcs) W C) (v c : ℕ) (hv : v < q .nodes) (hc : c < C) where
   -- the costs are d, and the arcs at most K
-  pub few-numbers : length (labelNumbers (asked q arcs) W v c) ≤ 68
+  few-numbers : length (labelNumbers (asked q arcs) W v c) ≤ 68
   unfolding labelNumbers lastRoute
   few-numbers =
       let R = asked q arcs in
       let ws = arcsOf (chain R W (q .hops) v c) in
       omega (arith, length-append (costs R (lastLabel R W v c)) (length ws ∷ ws), costs-long q arcs W C ok v c hv hc, chain-short R W (q .hops) v c, ok .small .three, ok .small .hops-few)
 
-  -- the numbers at the front of the words that they were stored in
-  pub numbers-front : (xs ys : List ℕ) (n : ℕ) → length xs ≡ 68 → n ≡ length (labelNumbers (asked q arcs) W v c) → ys ≡ write xs 0 (labelNumbers (asked q arcs) W v c)
-      → take n ys ≡ labelNumbers (asked q arcs) W v c
-  numbers-front xs ys n long e f = ap (λ (k : ℕ). take k ys) e ∙ ap (take (length (labelNumbers (asked q arcs) W v c))) f ∙ part-write-same xs 0 (labelNumbers (asked q arcs) W v c) (omega (arith, few-numbers))
+  -- so 68 words of 0 have room for them
+  pub numbers-stored : (ys : List ℕ) (n : ℕ) → n ≡ length (labelNumbers (asked q arcs) W v c) → ys ≡ write (replicate 68 0) 0 (labelNumbers (asked q arcs) W v c)
+      → Stored (labelNumbers (asked q arcs) W v c) ys n
+  numbers-stored ys n e f =
+      let vs : List ℕ = labelNumbers (asked q arcs) W v c in
+      let zeros = length-replicate {A = ℕ} 68 0 in
+      let front : take n ys ≡ vs = ap (λ (k : ℕ). take k ys) e ∙ ap (take (length vs)) f ∙ part-write-same (replicate 68 0) 0 vs (omega (arith, few-numbers)) in
+      record { few = few-numbers; long = ap length f ∙ length-write (replicate 68 0) 0 vs ∙ zeros; front = front; count = e ∙ sym (ap length front) }

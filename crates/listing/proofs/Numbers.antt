@@ -6,8 +6,7 @@ use native.Mathlib.Nat.{add-zero}
 use native.Mathlib.Omega.{arith}
 use lib.ListN.{length, take, drop, set, length-set}
 use Rattle.words.specs.Pieces.{part, write}
-use Rattle.words.proofs.Writes.{length-part, length-write, lent, write-nest, write-append}
-use Rattle.text.proofs.Fields.{set-write, write-none}
+use Rattle.words.proofs.Writes.{length-part, length-write, lent, write-nest, write-append, set-write, write-none}
 
 -- a word stored right before others
 before : (xs : List ℕ) (a v : ℕ) (ys : List ℕ) → write (write xs (suc a) ys) a (v ∷ []) ≡ write xs a (v ∷ ys)
@@ -17,7 +16,7 @@ before (x ∷ xs) zero v ys = ap (λ (r : List ℕ). v ∷ r) (write-none (write
 before (x ∷ xs) (suc a) v ys = ap (λ (r : List ℕ). x ∷ r) (before xs a v ys)
 
 -- a part lent, and written to from its front
-pub lent-front : (xs : List ℕ) (a k : ℕ) (ys : List ℕ) → length ys ≤ k → a + k ≤ length xs
+lent-front : (xs : List ℕ) (a k : ℕ) (ys : List ℕ) → length ys ≤ k → a + k ≤ length xs
     → take a xs ++ (write (part xs a k) 0 ys ++ drop k (drop a xs)) ≡ write xs a ys
 lent-front xs a k ys h g =
     lent xs a k (write (part xs a k) 0 ys) (length-write (part xs a k) 0 ys ∙ length-part xs a k g) g

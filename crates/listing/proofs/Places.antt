@@ -20,23 +20,16 @@ use Rattle.listing.specs.Print.{Tabled}
 
 -- ---- the numbers that make a place up are small
 
-module _ (n k C v c d : ℕ) (nodes-few : n ≤ 64) (hops-few : k ≤ 63) (cells-few : C ≤ 1048576) (hv : v < n) (hc : c < C) where
-  -- K × N
-  pub rows-small : k * n ≤ 4032
-  rows-small = omega (arith, mul-le-mul hops-few nodes-few)
-
-  -- the nodes before, times C
-  pub blocks-small : (k * n + v) * C ≤ 4293918720
-  blocks-small =
-      let h : k * n + v ≤ 4095 = omega (arith, rows-small) in
-      omega (arith, mul-le-mul h cells-few)
-
-  -- the labels before, times d + 2
-  pub places-small : d ≤ 3 → ((k * n + v) * C + c) * (d + 2) ≤ 21474836480
-  places-small few =
-      let h : (k * n + v) * C + c ≤ 4294967296 = omega (arith, blocks-small) in
-      let w : d + 2 ≤ 5 = omega arith in
-      omega (arith, mul-le-mul h w)
+-- K × N; the nodes before, times C; the labels before, times d + 2
+pub places-small : (q : Request) (C v c : ℕ) → (q .nodes ≤ 64) × (q .hops ≤ 63) × (q .criteria ≤ 3) × (C ≤ 1048576) × (v < q .nodes) × (c < C)
+    → (q .hops * q .nodes ≤ 4032) × ((q .hops * q .nodes + v) * C ≤ 4293918720) × (((q .hops * q .nodes + v) * C + c) * (q .criteria + 2) ≤ 21474836480)
+places-small q C v c p =
+    let rows = mul-le-mul (p .1) (p .0) in
+    let few : q .hops * q .nodes + v ≤ 4095 = omega (arith, p) in
+    let blocks = mul-le-mul few (p .3) in
+    let near : (q .hops * q .nodes + v) * C + c ≤ 4294967296 = omega (arith, p) in
+    let width : q .criteria + 2 ≤ 5 = omega (arith, p) in
+    (omega arith, omega arith, omega (arith, mul-le-mul near width))
 
 -- a label of the last layer is one of (K+1) × N × C
 place-in : (n k C v c : ℕ) → v < n → c < C → (k * n + v) * C + c < (k + 1) * (n * C)
@@ -72,7 +65,7 @@ module _ (q : Request) (arcs W : List ℕ) (C : ℕ) (ok : Tabled (asked q arcs)
 
     -- the place is small
     pub place-small : ((q .hops * q .nodes + v) * C + c) * (q .criteria + 2) ≤ 21474836480
-    place-small = places-small (q .nodes) (q .hops) C v c (q .criteria) (ok .small .nodes-few) (ok .small .hops-few) few-cells hv hc (ok .small .three)
+    place-small = places-small q C v c place-asks .2
 
     -- the label ends inside the words
     pub place-end : ((q .hops * q .nodes + v) * C + c) * (q .criteria + 2) + (q .criteria + 2) ≤ length W

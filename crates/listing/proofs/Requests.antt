@@ -25,7 +25,8 @@ use Rattle.request.proofs.Tests.{lt-holds, lt-fails}
 use Rattle.rounds.specs.Rounds.{table, tries}
 use Rattle.table.specs.declared.Built.the-variants as built
 use Rattle.table.specs.Build as build
-use Rattle.table.proofs.Building.{short-labels, all-clear, table-room, shape-labels, shape-cells}
+use Rattle.table.proofs.Building.{short-labels, all-clear, table-room, shape-cells}
+use Rattle.route.proofs.Reading.{words-is}
 use Rattle.listing.specs.declared.Printed.{Printed}
 use Rattle.listing.specs.declared.Printed.the-variants as printed
 use Rattle.listing.specs.declared.Listed.{Listed}
@@ -122,10 +123,6 @@ module _ (R : Req) (ok : Accepted R) (ladderRoom : ℕ) (room : length (ladders 
 -- ---- the table's words
 
 module _ (q : Request) (arcs : List ℕ) (ok : Accepted (asked q arcs)) (s : Shape) (e : s ≡ shapeOf (asked q arcs)) where
-  -- so many words has the table
-  pub words-are : s .labels * (q .criteria + 2) ≡ labelCount (asked q arcs) * width (asked q arcs)
-  words-are = ap (λ (n : ℕ). n * (q .criteria + 2)) (shape-labels q arcs ok s e)
-
   -- they are a table's
   pub tabled : Tabled (asked q arcs) (table (asked q arcs)) (s .cells)
   tabled = record {
@@ -133,7 +130,7 @@ module _ (q : Request) (arcs : List ℕ) (ok : Accepted (asked q arcs)) (s : Sha
     small = accepted-small (asked q arcs) ok;
     fits = accepted-fits (asked q arcs) ok;
     cells-is = shape-cells q arcs ok s e;
-    words = sym (table-room q arcs ok s e) ∙ words-are;
+    words = sym (table-room q arcs ok s e) ∙ words-is q arcs ok s e;
   }
 
   -- the front of the labels is the table
@@ -141,5 +138,5 @@ module _ (q : Request) (arcs : List ℕ) (ok : Accepted (asked q arcs)) (s : Sha
       → take (s .labels * (q .criteria + 2)) after ≡ table (asked q arcs)
   table-front labels after l h f =
       let r = table-room q arcs ok s e in
-      let w = words-are in
+      let w = words-is q arcs ok s e in
       ap₂ take r f ∙ part-write-same labels 0 (table (asked q arcs)) (omega arith)

@@ -17,6 +17,7 @@ use Rattle.text.specs.Number.{digits}
 use Rattle.text.specs.Line.{partedWidth}
 use Rattle.text.proofs.Fields.{lt-or-le}
 use Rattle.text.proofs.Digits.{width-word}
+use Rattle.text.proofs.Puts.{line-width}
 use Rattle.request.specs.declared.Request.{Request}
 use Rattle.request.specs.Request.{Req, asked, width, arcCount}
 use Rattle.request.specs.Shape.{cells, labelCount}
@@ -26,7 +27,7 @@ use Rattle.request.specs.Rows.{rows}
 use Rattle.request.proofs.Accepted.{accepted-regular, accepted-small, accepted-fits}
 use Rattle.request.proofs.Tests.{lt-fails}
 use Rattle.request.proofs.Tops.{largest-le}
-use Rattle.sheet.specs.Grammar.{sheetOf}
+use Rattle.sheet.specs.Grammar.{sheetOf, tab}
 use Rattle.sheet.specs.Reader.{wordsOf, requestOf, formRows}
 use Rattle.rounds.specs.Label.{costs, filled}
 use Rattle.rounds.specs.Rounds.{labelAt, table, tries}
@@ -34,11 +35,11 @@ use Rattle.rounds.proofs.Costs.{Within, layer-costs}
 use Rattle.rounds.proofs.Tries.{bit-le}
 use Rattle.route.specs.Walked.{Fronts}
 use Rattle.route.proofs.Tables.{label-in}
+use Rattle.route.proofs.Sound.{chain-short}
 use Rattle.listing.specs.Listing.{coverWord, lastLabel, lastRoute, filledAt, filledOf, filledLast, labelNumbers, labelLine, nodeLines, labelLines, coverLine}
 use Rattle.listing.specs.Print.{Tabled}
 use Rattle.listing.specs.List.{asks, listingOf, requestRows, listRows}
-use Rattle.listing.proofs.Chains.{chain-short, chain-arcs}
-use Rattle.listing.proofs.Lines.{line-wide}
+use Rattle.listing.proofs.Chains.{chain-arcs}
 use Rattle.listing.proofs.Lengths.{three-digits, eight-digits, no-digits, parted-few, line-le, join-le, some-hops, no-hops}
 use Rattle.listing.proofs.Places.{costs-long, few-labels}
 use Rattle.listing.proofs.Prints.{listing-length}
@@ -133,12 +134,15 @@ module _ (q : Request) (arcs : List ℕ) (ok : Accepted (asked q arcs)) where
       none : q .hops < 1 → length (labelLines R W) ≤ 52900
       none l =
           let z : q .hops ≡ 0 = omega arith in
-          omega (arith, lines-few 1 (λ n g. no-digits n (omega arith)), mul-assoc (q .nodes) (cells R) (12 + q .criteria * 2 + q .hops * 4), no-hops (q .nodes * cells R) (q .hops) (q .criteria) (accepted-small R ok .two) (accepted-small R ok .three) z h)
+          let few = no-hops (q .nodes * cells R) (q .hops) (q .criteria) (accepted-small R ok .two) (accepted-small R ok .three) z h in
+          omega (arith, lines-few 1 (λ n g. no-digits n (omega arith)), mul-assoc (q .nodes) (cells R) (12 + q .criteria * 2 + q .hops * 4))
 
       -- else they have at most eight digits
       some : 1 ≤ q .hops → length (labelLines R W) ≤ 52900
       some l =
-          omega (arith, lines-few 8 (λ n g. eight-digits n (omega (arith, g, accepted-small R ok .hops-few))), mul-assoc (q .nodes) (cells R) (12 + q .criteria * 9 + q .hops * 4), some-hops (q .nodes * cells R) (q .hops) (q .criteria) (accepted-small R ok .two) (accepted-small R ok .three) l h)
+          let few = some-hops (q .nodes * cells R) (q .hops) (q .criteria) (accepted-small R ok .two) (accepted-small R ok .three) l h in
+          let lines = lines-few 8 (λ n g. eight-digits n (omega (arith, g, accepted-small R ok .hops-few))) in
+          omega (arith, mul-assoc (q .nodes) (cells R) (12 + q .criteria * 9 + q .hops * 4))
 
   -- as many filled labels as there are labels in a layer, at most
   filled-few : filledLast R W ≤ q .nodes * cells R
@@ -154,7 +158,7 @@ module _ (q : Request) (arcs : List ℕ) (ok : Accepted (asked q arcs)) where
       let t = tries-few R (accepted-regular R ok) (accepted-small R ok) (accepted-fits R ok) in
       let f = filled-few in
       let l = few-labels q arcs W (cells R) is-table in
-      omega (arith, line-wide coverWord (filledLast R W ∷ tries R (q .hops) ∷ []), width-word (filledLast R W) (omega arith), width-word (tries R (q .hops)) (omega arith))
+      omega (arith, line-width tab coverWord (filledLast R W ∷ tries R (q .hops) ∷ []), width-word (filledLast R W) (omega arith), width-word (tries R (q .hops)) (omega arith))
 
   -- EVERY LISTING FROM 12,288 LABEL WORDS IS UNDER 53,000 BYTES
   pub listing-few : labelCount (asked q arcs) * width (asked q arcs) ≤ 12288 → length (listingOf (asked q arcs)) < 53000

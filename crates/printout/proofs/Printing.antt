@@ -10,12 +10,13 @@ use Rattle.words.specs.Rows.{Row, Weighed, clear, refused, weigh, settle}
 use Rattle.words.proofs.Rows.{weigh-front, weigh-clear-front, weigh-clear-back, clear-cons}
 use Rattle.text.specs.Line.{partedWidth}
 use Rattle.text.proofs.Digits.{width-word}
+use Rattle.text.proofs.Puts.{line-width}
 use Rattle.request.specs.Request.{width}
 use Rattle.request.specs.Shape.{labelCount}
 use Rattle.request.specs.Rows.{rows}
 use Rattle.request.specs.Accepted.{Accepted}
 use Rattle.request.specs.declared.Refusal.{Refusal}
-use Rattle.sheet.specs.Grammar.{sheetOf}
+use Rattle.sheet.specs.Grammar.{sheetOf, tab}
 use Rattle.sheet.specs.Reader.{wordsOf, requestOf, formRows}
 use Rattle.listing.specs.List.{asks, listingOf, requestRows, listRows, answer, listedOf, listingAfter}
 use Rattle.listing.specs.declared.Listed.the-variants as listed
@@ -24,13 +25,12 @@ use Rattle.printout.specs.Printout.{printoutRows, printed, printoutOf}
 use Rattle.listing.specs.declared.Printed.the-variants as print
 use Rattle.listing.specs.Listing.{refusedWord, refusalLine}
 use Rattle.listing.specs.Print.{printedOf, bytesAfter}
-use Rattle.listing.proofs.Lines.{line-wide}
 use Rattle.listing.proofs.Prints.{prints-text}
 
 -- the line of a refusal takes at most 30 bytes
 pub line-short : (n p : ℕ) → n < 4294967296 → p < 4294967296 → length (refusalLine n p) ≤ 30
 unfolding refusalLine partedWidth
-line-short n p hn hp = omega (arith, line-wide refusedWord (n ∷ p ∷ []), width-word n hn, width-word p hp)
+line-short n p hn hp = omega (arith, line-width tab refusedWord (n ∷ p ∷ []), width-word n hn, width-word p hp)
 
 module _ (text bytes : List ℕ) (room : length text ≤ length bytes) where
   -- so many bytes were printed
@@ -74,7 +74,7 @@ module _ (s : List ℕ) (room : ℕ) (enough : 53000 ≤ room) where
       ∙ sym (append-assoc (formRows s) (rows (asks s) ++ words-row ∷ []) (bytes-row ∷ []))
 
   -- which does not hold
-  pub same-weight : weigh (listRows s room) ≡ weigh (printoutRows s)
+  same-weight : weigh (listRows s room) ≡ weigh (printoutRows s)
   unfolding printoutRows Accepted
   same-weight = go (weigh (printoutRows s)) refl
     where

@@ -5,12 +5,10 @@ use Rattle.promises.proofs.Agree.{agree, passed, lent}
 use Rattle.words.proofs.clear
 use Rattle.words.proofs.copy
 use Rattle.words.proofs.word
-use Rattle.fences.proofs.next_fence
 use Rattle.fences.proofs.count
 use Rattle.fences.proofs.fill
 use Rattle.request.proofs.fill_ladders
 use Rattle.labels.proofs.add_costs
-use Rattle.labels.proofs.wins
 use Rattle.labels.proofs.place
 use Rattle.tries.proofs.try_arc
 use Rattle.route.proofs.follow
@@ -24,9 +22,6 @@ copy-settled κs a x y v w ok p q = (refl, lent (agree p q) refl)
 pub word-settled : Settled word.Kinds.ps word.Kinds.r word.Reads.Asked word.Reads.Learnt
 word-settled κs a x y v w ok p q = (agree p q, refl)
 
-pub next-fence-settled : Settled next_fence.Kinds.ps next_fence.Kinds.r next_fence.Reads.Asked next_fence.Reads.Learnt
-next-fence-settled κs a x y v w ok p q = (agree p q, refl)
-
 pub count-settled : Settled count.Kinds.ps count.Kinds.r count.Reads.Asked count.Reads.Learnt
 count-settled κs a x y v w ok p q = (agree p q, refl)
 
@@ -38,9 +33,6 @@ fill-ladders-settled κs a x y v w ok p q = (refl, lent (agree p q) refl)
 
 pub add-costs-settled : Settled add_costs.Kinds.ps add_costs.Kinds.r add_costs.Reads.Asked add_costs.Reads.Learnt
 add-costs-settled κs a x y v w ok p q = (refl, lent (agree p q) refl)
-
-pub wins-settled : Settled wins.Kinds.ps wins.Kinds.r wins.Reads.Asked wins.Reads.Learnt
-wins-settled κs a x y v w ok p q = (agree p q, refl)
 
 pub place-settled : Settled place.Kinds.ps place.Kinds.r place.Reads.Asked place.Reads.Learnt
 place-settled κs a x y v w ok p q = (refl, lent (agree p q) refl)

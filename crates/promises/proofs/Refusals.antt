@@ -11,7 +11,7 @@ use Rattle.words.specs.Pieces.{write}
 use Rattle.request.specs.Request.{asked}
 use Rattle.request.specs.Shape.{ladders}
 use Rattle.rounds.specs.Rounds.{table, tries}
-use Rattle.sheet.specs.Answer.{told, unlessRefused}
+use Rattle.sheet.specs.Answer.{told}
 use Rattle.sheet.specs.Grammar.{sheetOf}
 use Rattle.sheet.specs.Reader as reader
 use Rattle.sheet.specs.Writer as writer
@@ -51,10 +51,6 @@ came : {A : Type 0} (w : Weighed) (x y : A) → (w ≡ clear → ⊥) → settle
 came clear x y h = absurd (h refl)
 came (refused n p) x y h = refl
 
-came-read : {A : Type 0} (w : Weighed) (x y : A) → (w ≡ clear → ⊥) → unlessRefused w x y ≡ y
-came-read clear x y h = absurd (h refl)
-came-read (refused n p) x y h = refl
-
 -- ---- and it is not clear where a refusal is answered: of each table
 
 build-refuses : (w : Weighed) (n : ℕ) (f : Refusal) → build-of.answer w n ≡ built.Refused f → w ≡ clear → ⊥
@@ -89,7 +85,7 @@ read-leaves κs a x v p f =
     let s = now (a .0) in
     let w = weigh (reader.readerRows s (length (now (a .1 .0)))) in
     let h : w ≡ clear → ⊥ = told-refuses w (length (reader.wordsOf (sheetOf s))) (f .0 .number) (f .0 .place) (sym (ap reader.said (f .1)) ∙ p .0) in
-    passed (lent (p .1 .1 ∙ came-read w (write (now (a .1 .0)) 0 (reader.wordsOf (sheetOf s))) (now (a .1 .0)) h) refl)
+    passed (lent (p .1 .1 ∙ came w (write (now (a .1 .0)) 0 (reader.wordsOf (sheetOf s))) (now (a .1 .0)) h) refl)
 
 -- the writer's bytes
 pub write-leaves : Leaves writes.Kinds.ps writes.Kinds.r (λ κs a. (tt, (tt, (now (a .1 .1 .0), tt)))) (λ κs x. (f : Refusal) × (x ≡ writing.Refused f)) writes.Reads.Learnt
@@ -97,7 +93,7 @@ unfolding writer.writeSays writer.sheetAfter
 write-leaves κs a x v p f =
     let w = weigh (writer.writerRows (a .0) (now (a .1 .0)) (length (now (a .1 .1 .0)))) in
     let h : w ≡ clear → ⊥ = told-refuses w (length (writer.written (a .0) (now (a .1 .0)))) (f .0 .number) (f .0 .place) (sym (ap writer.writingSaid (f .1)) ∙ p .0) in
-    passed (passed (lent (p .1 ∙ came-read w (write (now (a .1 .1 .0)) 0 (writer.written (a .0) (now (a .1 .0)))) (now (a .1 .1 .0)) h) refl))
+    passed (passed (lent (p .1 ∙ came w (write (now (a .1 .1 .0)) 0 (writer.written (a .0) (now (a .1 .0)))) (now (a .1 .1 .0)) h) refl))
 
 -- the read-back's route buffer, where the ending is no route
 pub read-back-leaves : Leaves back.Kinds.ps back.Kinds.r (λ κs a. (tt, (tt, (tt, (tt, (tt, (tt, (now (a .1 .1 .1 .1 .1 .1 .0), tt)))))))) (λ κs x. (k : ℕ) → x .ending ≡ ending.Route k → ⊥) back.Reads.Learnt
@@ -140,7 +136,7 @@ gowkaroo-read-leaves κs a x v p f =
     let n = length (reader.wordsOf (sheetOf s)) in
     let w = weigh (reader.readerRows s room) in
     let h : w ≡ clear → ⊥ = λ q. no-count x (told w n) (read-answer s room) (p .0) f n (ap (λ (u : Weighed). told u n) q) in
-    passed (lent (p .1 .0 ∙ came-read w (requestWords (reader.readRequest s room)) (now (a .1 .0)) h) (lent (p .1 .1 ∙ came-read w (write (now (a .1 .1 .0)) 0 (reader.wordsOf (sheetOf s))) (now (a .1 .1 .0)) h) refl))
+    passed (lent (p .1 .0 ∙ came w (requestWords (reader.readRequest s room)) (now (a .1 .0)) h) (lent (p .1 .1 ∙ came w (write (now (a .1 .1 .0)) 0 (reader.wordsOf (sheetOf s))) (now (a .1 .1 .0)) h) refl))
 
 -- the sheet's bytes
 pub gowkaroo-write-leaves : Leaves gowkaroo_write.Kinds.ps gowkaroo_write.Kinds.r (λ κs a. (tt, (tt, (now (a .1 .1 .0), tt)))) (λ κs x. IsRefused x) gowkaroo_write.Reads.Learnt
@@ -151,7 +147,7 @@ gowkaroo-write-leaves κs a x v p f =
     let text = writer.written r (now (a .1 .0)) in
     let w = weigh (writer.writerRows r (now (a .1 .0)) room) in
     let h : w ≡ clear → ⊥ = λ q. no-count x (told w (length text)) (write-answer r (now (a .1 .0)) room) (p .0) f (length text) (ap (λ (u : Weighed). told u (length text)) q) in
-    passed (passed (lent (p .1 ∙ came-read w (write (now (a .1 .1 .0)) 0 text) (now (a .1 .1 .0)) h) refl))
+    passed (passed (lent (p .1 ∙ came w (write (now (a .1 .1 .0)) 0 text) (now (a .1 .1 .0)) h) refl))
 
 -- the ladders and the labels
 pub gowkaroo-build-leaves : Leaves gowkaroo_build.Kinds.ps gowkaroo_build.Kinds.r (λ κs a. (tt, (tt, (now (a .1 .1 .0), (now (a .1 .1 .1 .0), tt))))) (λ κs x. IsRefused x) gowkaroo_build.Reads.Learnt

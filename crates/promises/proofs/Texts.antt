@@ -4,11 +4,7 @@ use Rattle.promises.specs.Settled.{Settled}
 use Rattle.promises.proofs.Agree.{agree, passed, lent}
 use Rattle.text.proofs.word_line
 use Rattle.text.proofs.any_over
-use Rattle.text.proofs.width
 use Rattle.text.proofs.widths
-use Rattle.text.proofs.put_bytes
-use Rattle.text.proofs.put_number
-use Rattle.text.proofs.put_numbers
 use Rattle.text.proofs.put_line
 use Rattle.listing.proofs.print_refusal
 
@@ -18,20 +14,8 @@ word-line-settled κs a x y v w ok p q = (agree (p .0) (q .0), passed (passed (p
 pub any-over-settled : Settled any_over.Kinds.ps any_over.Kinds.r any_over.Reads.Asked any_over.Reads.Learnt
 any-over-settled κs a x y v w ok p q = (agree p q, refl)
 
-pub width-settled : Settled width.Kinds.ps width.Kinds.r width.Reads.Asked width.Reads.Learnt
-width-settled κs a x y v w ok p q = (agree p q, refl)
-
 pub widths-settled : Settled widths.Kinds.ps widths.Kinds.r widths.Reads.Asked widths.Reads.Learnt
 widths-settled κs a x y v w ok p q = (agree (p .0) (q .0), refl)
-
-pub put-bytes-settled : Settled put_bytes.Kinds.ps put_bytes.Kinds.r put_bytes.Reads.Asked put_bytes.Reads.Learnt
-put-bytes-settled κs a x y v w ok p q = (agree (p .0) (q .0), lent (agree (p .1) (q .1)) refl)
-
-pub put-number-settled : Settled put_number.Kinds.ps put_number.Kinds.r put_number.Reads.Asked put_number.Reads.Learnt
-put-number-settled κs a x y v w ok p q = (agree (p .0) (q .0), lent (agree (p .1) (q .1)) refl)
-
-pub put-numbers-settled : Settled put_numbers.Kinds.ps put_numbers.Kinds.r put_numbers.Reads.Asked put_numbers.Reads.Learnt
-put-numbers-settled κs a x y v w ok p q = (agree (p .0) (q .0), lent (agree (p .1) (q .1)) refl)
 
 pub put-line-settled : Settled put_line.Kinds.ps put_line.Kinds.r put_line.Reads.Asked put_line.Reads.Learnt
 put-line-settled κs a x y v w ok p q = (agree (p .0) (q .0), lent (agree (p .1) (q .1)) refl)

@@ -11,12 +11,13 @@ use Rattle.words.specs.Loops.{any}
 use Rattle.words.specs.Rows.{clear, weigh, each}
 use Rattle.words.proofs.Loops.{none-any}
 use Rattle.words.proofs.Rows.{clear-cons, weigh-clear-front, weigh-clear-back, clear-each}
+use Rattle.words.proofs.Choices.{nor-left, nor-right}
 use Rattle.request.specs.Request.{Req, width, arcCount, arc, tail, head, ratioP, ratioQ}
 use Rattle.request.specs.Shape.{buckets, labelCount}
 use Rattle.request.specs.Rows.{outside, sizeRows, ratioRow, arcWordsRow, arcFault, arcRow, bucketRow, labelRow, askRows, arcRows, shapeRows, rows}
 use Rattle.request.specs.Accepted.{Accepted, Regular, Small, Fits}
 use Rattle.request.proofs.Tops.{cost-at}
-use Rattle.request.proofs.Tests.{nor-left, nor-right, not-outside}
+use Rattle.request.proofs.Tests.{not-outside}
 
 -- ---- rows 2 to 5
 

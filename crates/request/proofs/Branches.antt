@@ -8,10 +8,10 @@ use lib.Dec.{T, leb, ltb}
 use Rattle.words.specs.Loops.{any}
 use Rattle.words.specs.Pieces.{at}
 use Rattle.words.specs.Rows.{clear, refused, weigh, each}
-use Rattle.words.proofs.Choices.{cond-true, cond-false}
+use Rattle.words.proofs.Choices.{cond-true, cond-false, or-left, or-right, or-neither}
 use Rattle.words.proofs.Rows.{weigh-none, weigh-held, weigh-passed, each-refused}
 use Rattle.request.specs.Rows.{outside, sizeRows, ratioRow, arcWordsRow, arcFault, arcRow}
-use Rattle.request.proofs.Tests.{or-left, or-right, or-neither, lt-holds, lt-fails, le-holds, le-fails}
+use Rattle.request.proofs.Tests.{lt-holds, lt-fails, le-holds, le-fails}
 
 -- ---- rows 2 to 5
 

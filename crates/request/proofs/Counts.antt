@@ -16,6 +16,7 @@ use Rattle.words.specs.Rows.{Weighed, clear, refused, weigh, each}
 use Rattle.words.proofs.Loops.{below-next}
 use Rattle.words.proofs.Radix.{volume-zero, volume-next}
 use Rattle.words.proofs.Rows.{each-clear, each-refused, clear-each, weigh-append, weigh-held, weigh-passed, weigh-none}
+use Rattle.words.proofs.Writes.{spelled-all}
 use Rattle.fences.specs.Answer.{bucketsOf}
 use Rattle.fences.specs.declared.Buckets.the-variants.{Count, Over}
 use Rattle.fences.proofs.Answers.{count-is, over-is}
@@ -90,32 +91,24 @@ module _ (R : Req) where
   unfolding count
   count-out j l = ap (λ (b : Bool). cond b (buckets R j) 1) (le-ltb j (R .graded) l)
 
-  two-words : (xs : List ℕ) → length xs ≡ 2 → xs ≡ getD xs 0 0 ∷ getD xs 1 0 ∷ []
-  two-words [] e = absurd (omega arith)
-  two-words (x ∷ []) e = absurd (omega arith)
-  two-words (x ∷ y ∷ []) e = refl
-  two-words (x ∷ y ∷ z ∷ xs) e = absurd (omega arith)
-
   pub all-counted : (counts : List ℕ) → Upto counts (R .graded) → counts ≡ count R 0 ∷ count R 1 ∷ []
-  all-counted counts u = two-words counts (u .size) ∙ ap₂ (λ (x y : ℕ). x ∷ y ∷ []) (at 0 (decLt 0 (R .graded)) (omega arith)) (at 1 (decLt 1 (R .graded)) (omega arith))
+  all-counted counts u = sym (spelled-all counts 2 (u .size)) ∙ ap₂ (λ (x y : ℕ). x ∷ y ∷ []) (at 0 (decLt 0 (R .graded)) (omega arith)) (at 1 (decLt 1 (R .graded)) (omega arith))
     where
       at : (j : ℕ) → Dec (j < R .graded) → j < 2 → getD counts j 0 ≡ count R j
       at j (yes l) h = u .done j l ∙ sym (count-in j l)
       at j (no l) h = u .rest j (omega arith) h ∙ sym (count-out j (omega arith))
 
+  -- one base alone
+  volume-one : volume (buckets R) 1 ≡ buckets R 0
+  volume-one = volume-next (buckets R) 0 ∙ ap (λ (x : ℕ). x * buckets R 0) (volume-zero (buckets R)) ∙ one-mul (buckets R 0)
+
   -- C is their product, and each is within 1 to 4,096
   pub cells-counts : (R .graded ≡ 1) ⊎ (R .graded ≡ 2) → cells R ≡ count R 0 * count R 1
   unfolding cells
   cells-counts (inl e) =
-      ap (volume (buckets R)) e ∙ one ∙ sym (mul-one (buckets R 0)) ∙ ap₂ (λ (x y : ℕ). x * y) (sym (count-in 0 (omega arith))) (sym (count-out 1 (omega arith)))
-    where
-      one : volume (buckets R) 1 ≡ buckets R 0
-      one = volume-next (buckets R) 0 ∙ ap (λ (x : ℕ). x * buckets R 0) (volume-zero (buckets R)) ∙ one-mul (buckets R 0)
+      ap (volume (buckets R)) e ∙ volume-one ∙ sym (mul-one (buckets R 0)) ∙ ap₂ (λ (x y : ℕ). x * y) (sym (count-in 0 (omega arith))) (sym (count-out 1 (omega arith)))
   cells-counts (inr e) =
-      ap (volume (buckets R)) e ∙ volume-next (buckets R) 1 ∙ ap (λ (x : ℕ). x * buckets R 1) one ∙ ap₂ (λ (x y : ℕ). x * y) (sym (count-in 0 (omega arith))) (sym (count-in 1 (omega arith)))
-    where
-      one : volume (buckets R) 1 ≡ buckets R 0
-      one = volume-next (buckets R) 0 ∙ ap (λ (x : ℕ). x * buckets R 0) (volume-zero (buckets R)) ∙ one-mul (buckets R 0)
+      ap (volume (buckets R)) e ∙ volume-next (buckets R) 1 ∙ ap (λ (x : ℕ). x * buckets R 1) volume-one ∙ ap₂ (λ (x y : ℕ). x * y) (sym (count-in 0 (omega arith))) (sym (count-in 1 (omega arith)))
 
   pub count-few : weigh (each (bucketRow R) (R .graded)) ≡ clear → (j : ℕ) → count R j ≤ 4096
   count-few e j = at (decLt j (R .graded))

@@ -18,10 +18,7 @@ use Rattle.request.specs.Answer.{said}
 pub decided : (w : Weighing) (r : Refusal) (xs ys : List Row) → w ≡ weighing.Refused r → said w ≡ weigh xs → said w ≡ weigh (xs ++ ys)
 decided w r xs ys e s = ap said e ∙ sym (weigh-front xs ys (r .number) (r .place) (sym s ∙ ap said e))
 
--- one that is clear leaves it to what stands after it
-pub passed-on : (w : Weighing) (xs ys : List Row) → w ≡ weighing.Clear → said w ≡ weigh xs → weigh (xs ++ ys) ≡ weigh ys
-passed-on w xs ys e s = weigh-append xs ys (sym s ∙ ap said e)
-
+-- one that is clear says so of its rows
 pub was-clear : (w : Weighing) (xs : List Row) → w ≡ weighing.Clear → said w ≡ weigh xs → weigh xs ≡ clear
 was-clear w xs e s = sym s ∙ ap said e
 

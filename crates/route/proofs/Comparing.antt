@@ -7,17 +7,12 @@ use native.Mathlib.Omega.{arith}
 use lib.ListN.{length, getD, take, drop, replicate, length-drop, length-replicate, getD-replicate}
 use lib.Seq.{length-take-le, getD-take, getD-drop, ext-getD}
 use lib.Dec.{T, eqb, eqb→eq, eqb-refl}
-use borrow.Author.Tests.{eqb-false}
-use Rattle.words.proofs.Choices.{is-true, true-is}
+use Rattle.words.proofs.Choices.{is-true, true-is, and-both}
 use Rattle.rounds.specs.Label.{sum}
 use Rattle.rounds.proofs.Labels.{getD-sum, length-sum}
 use Rattle.route.specs.Chain.{same}
 
 -- ---- the test is equality
-
-and-both : (a b : Bool) → T (a && b) → T a × T b
-and-both true b t = (tt, t)
-and-both false b t = absurd t
 
 both-and : (a b : Bool) → T a → T b → T (a && b)
 both-and true b t u = u
@@ -91,11 +86,3 @@ module _ (l : List ℕ) (d : ℕ) (in-l : d ≤ length l) where
 
       pub sum-no : (j : ℕ) → j < d → (getD l j 0 ≡ getD m j 0 + getD arc (j + 2) 0 → ⊥) → false ≡ same (take d l) (sum (take d m) (drop 2 arc))
       sum-no j g h = difference (take d l) (sum (take d m) (drop 2 arc)) j (λ e. h (sym (getD-take d l j 0 g) ∙ e ∙ sum-word j g))
-
--- one more word agrees
-pub next-word : (P : ℕ → Type 0) (j : ℕ) → ((k : ℕ) → k < j → P k) → P j → (k : ℕ) → k < j + 1 → P k
-next-word P j h p k l = go (eqb k j) refl
-  where
-    go : (b : Bool) → eqb k j ≡ b → P k
-    go true e = subst P (sym (eqb→eq k j (true-is e))) p
-    go false e = h k (omega (arith, l, eqb-false k j e))

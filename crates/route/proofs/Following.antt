@@ -15,14 +15,12 @@ use Rattle.cover.proofs.Walks.{length-snoc}
 use Rattle.route.specs.Chain.{labelIn, Chain, whole, broken, push, startHolds, keptHolds, arcHolds, chainIn, chain}
 use Rattle.route.specs.Links.{linkOf, trailOf}
 use Rattle.route.specs.Answer.{arcsOf}
-use Rattle.route.specs.Walked.{Sound}
 use Rattle.route.specs.declared.Link.{Link}
 use Rattle.route.specs.declared.Link.the-variants as link
 use Rattle.route.specs.declared.Trail.{Trail}
 use Rattle.route.specs.declared.Trail.the-variants as trail
 use Rattle.route.proofs.Holding.{kept-facts, arc-facts}
 use Rattle.route.proofs.Leading.{kept-before, came-before}
-use Rattle.route.proofs.Sound.{chain-sound}
 
 -- ---- enough labels
 
@@ -92,14 +90,6 @@ module _ (R : Req) (W : List ℕ) where
 
       pub chain-came : (a u f : ℕ) → linkOf R W i v c ≡ link.Came a u f → chain R W i v c ≡ push a (chain R W (i - 1) u f)
       chain-came a u f e = chain-linked i v c ∙ ap (linked (reach R) i v c) e ∙ ap (push a) (before (came-before R W i v c a u f e) u f)
-
-  -- a chain has no more arcs than its layer
-  pub chain-short : (i v c k : ℕ) → trail.Whole k ≡ trailOf (chain R W i v c) → k ≤ i
-  chain-short i v c k = go (chain R W i v c) (chain-sound R W i v c)
-    where
-      go : (ch : Chain) → Sound R W i v c ch → trail.Whole k ≡ trailOf ch → k ≤ i
-      go (whole ws) s e = let n : k ≡ length ws = cc in let h = s .1 .short in omega arith
-      go (broken j) s e = let z : _≡_ {A = ℕ} 0 1 = cc in absurd (omega arith)
 
 -- ---- what following leaves: the answer and the route buffer
 

@@ -1,18 +1,18 @@
 -- What a start, a kept label and an arc label are that hold, fact by fact; and each test from its facts. Assumes nothing.
 use Prim.Native.Nat.{ℕ, _≤_, _<_}
 use mathlib.Core.Path.{_≡_, refl, sym, subst}
-use mathlib.Core.Bool.{Bool, true, false, not, _||_, _&&_}
+use mathlib.Core.Bool.{Bool, true, false, not, _&&_}
 use mathlib.Core.List.{List}
 use native.Mathlib.Nat.{lt-of-not-le}
 use native.Mathlib.Omega.{arith}
 use lib.ListN.{length, getD, replicate, List·getD-eq-default}
 use lib.Dec.{T, leb, ltb, eqb, leb→le, ltb→lt, eqb→eq}
 use borrow.Author.Tests.{eq-eqb, lt-ltb, le-leb}
+use Rattle.words.proofs.Choices.{or-right, or-implies, and-both}
 use Rattle.request.specs.Request.{Req, arcCount, head, arcCosts}
 use Rattle.request.specs.Shape.{cells}
 use Rattle.rounds.specs.Label.{costs, step, from, filled, sum}
 use Rattle.route.specs.Chain.{same, startHolds, agrees, keptHolds, arcHolds}
-use Rattle.request.proofs.Tests.{or-right}
 use Rattle.route.proofs.Comparing.{same-equal, same-self}
 
 -- ---- tests
@@ -22,26 +22,20 @@ pub not-held : (b : Bool) → (T b → ⊥) → false ≡ b
 not-held true h = absurd (h tt)
 not-held false h = refl
 
-all5 : (a b c d e : Bool) → T (a && b && c && d && e) → T a × T b × T c × T d × T e
-all5 true true true true e t = (tt, tt, tt, tt, t)
-all5 true true true false e t = absurd t
-all5 true true false d e t = absurd t
-all5 true false c d e t = absurd t
-all5 false b c d e t = absurd t
-
+-- each of several tests that hold together
 all4 : (a b c d : Bool) → T (a && b && c && d) → T a × T b × T c × T d
-all4 a b c d t = go (all5 true a b c d t)
-  where
-    go : T true × T a × T b × T c × T d → T a × T b × T c × T d
-    go p = (p .1, p .2, p .3, p .4)
+all4 a b c d t =
+    let p = and-both (a && b && c) d t in
+    let q = and-both (a && b) c (p .0) in
+    let r = and-both a b (q .0) in
+    (r .0, r .1, q .1, p .1)
 
 all6 : (a b c d e f : Bool) → T (a && b && c && d && e && f) → T a × T b × T c × T d × T e × T f
-all6 true b c d e f t = let p = all5 b c d e f t in (tt, p .0, p .1, p .2, p .3, p .4)
-all6 false b c d e f t = absurd t
-
-if-filled : (a b : Bool) → T (not a || b) → T a → T b
-if-filled true b t u = t
-if-filled false b t u = absurd u
+all6 a b c d e f t =
+    let p = and-both (a && b && c && d && e) f t in
+    let q = and-both (a && b && c && d) e (p .0) in
+    let r = all4 a b c d (q .0) in
+    (r .0, r .1, r .2, r .3, q .1, p .1)
 
 -- a bound passed is not kept
 pub not-under : {x y : ℕ} → x ≤ y → y < x → ⊥
@@ -54,9 +48,9 @@ word-inside l n h = lt-of-not-le (λ (g : length l ≤ n). h (List·getD-eq-defa
 -- ---- the costs of the label reached
 
 module _ (R : Req) (xs reached ys : List ℕ) where
-  pub agree-facts : T (agrees R xs reached ys) → T (filled R reached) → xs ≡ ys
+  agree-facts : T (agrees R xs reached ys) → T (filled R reached) → xs ≡ ys
   unfolding agrees
-  agree-facts t u = same-equal xs ys (if-filled (filled R reached) (same xs ys) t u)
+  agree-facts t u = same-equal xs ys (or-implies (filled R reached) (same xs ys) t u)
 
   -- an empty label agrees with anything
   pub agree-empty : step R reached ≡ 0 → true ≡ agrees R xs reached ys
@@ -69,7 +63,7 @@ module _ (R : Req) (xs reached ys : List ℕ) where
   agree-filled h = let p : 0 < step R reached = omega arith in rw (lt-ltb 0 (step R reached) p)
 
   -- equal costs agree
-  pub agree-true : xs ≡ ys → T (agrees R xs reached ys)
+  agree-true : xs ≡ ys → T (agrees R xs reached ys)
   unfolding agrees
   agree-true e = or-right (not (filled R reached)) (same xs ys) (subst (λ (zs : List ℕ). T (same xs zs)) e (same-self xs))
 

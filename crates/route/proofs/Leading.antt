@@ -59,7 +59,7 @@ module _ (R : Req) (W : List ℕ) (i v c : ℕ) where
       unfolding linkOf
       third = sym (cond-false (startHolds R i l v c) link.Ends _ no-start ∙ cond-false (keptHolds R i l (labelIn R W (i - 1) v c)) link.Kept _ no-kept)
 
-      pub lead-fails : T (not (arcHolds R i (labelIn R W i v c) v (step R (labelIn R W i v c) - 3) (labelIn R W (i - 1) (tail R (step R (labelIn R W i v c) - 3)) (from R (labelIn R W i v c))))) → link.Fails ≡ linkOf R W i v c
+      lead-fails : T (not (arcHolds R i (labelIn R W i v c) v (step R (labelIn R W i v c) - 3) (labelIn R W (i - 1) (tail R (step R (labelIn R W i v c) - 3)) (from R (labelIn R W i v c))))) → link.Fails ≡ linkOf R W i v c
       lead-fails t = sym (cond-false (arcHolds R i l v a reached) (link.Came a (tail R a) (from R l)) link.Fails t) ∙ third
 
       -- its step names no arc
@@ -85,16 +85,18 @@ module _ (R : Req) (W : List ℕ) (i v c : ℕ) where
         same-test : arcHolds R i X v (s - 3) Z ≡ arcHolds R i l v a reached
         same-test = let p = same-arc in let q = same-reached in cc
 
-        pub lead-came : {b : Bool} → b ≡ true → b ≡ arcHolds R i X v (s - 3) Z → link.Came (s - 3) u f ≡ linkOf R W i v c
-        lead-came t e =
+        -- the test of the arc decides
+        pub lead-arc : {b : Bool} → b ≡ arcHolds R i X v (s - 3) Z → cond b (link.Came (s - 3) u f) link.Fails ≡ linkOf R W i v c
+        lead-arc {b} e =
             let p = same-arc in
             let q = same-tail in
             let r = same-from in
             let same : link.Came (s - 3) u f ≡ link.Came a (tail R a) (from R l) = cc in
-            same ∙ sym (cond-true (arcHolds R i l v a reached) (link.Came a (tail R a) (from R l)) link.Fails (true-is (sym same-test ∙ sym e ∙ t))) ∙ third
+            ap₂ (λ (t : Bool) (x : Link). cond t x link.Fails) (e ∙ same-test) same ∙ third
 
-        pub lead-missed : {b : Bool} → b ≡ false → b ≡ arcHolds R i X v (s - 3) Z → link.Fails ≡ linkOf R W i v c
-        lead-missed t e = lead-fails (false-is (sym same-test ∙ sym e ∙ t))
+        -- it holds
+        pub lead-came : {b : Bool} → b ≡ true → b ≡ arcHolds R i X v (s - 3) Z → link.Came (s - 3) u f ≡ linkOf R W i v c
+        lead-came t e = ap (λ (z : Bool). cond z (link.Came (s - 3) u f) link.Fails) (sym t) ∙ lead-arc e
 
     -- no layer lies before layer 0
     pub lead-none : i ≡ 0 → link.Fails ≡ linkOf R W i v c
@@ -102,17 +104,16 @@ module _ (R : Req) (W : List ℕ) (i v c : ℕ) where
         let k : T (not (keptHolds R i l (labelIn R W (i - 1) v c))) = not-T (keptHolds R i l (labelIn R W (i - 1) v c)) (λ t. let p = kept-facts R i l (labelIn R W (i - 1) v c) t .before in absurd (omega arith)) in
         lead-fails k (not-T (arcHolds R i l v a reached) (λ t. let p = arc-facts R i l v a reached t .before in absurd (omega arith)))
 
-  -- a label that leads on has a layer before
-  pub kept-before : linkOf R W i v c ≡ link.Kept → 0 < i
+  -- a label that leads on, which neither a start nor a failing one does, has a layer before
+  lead-before : (P : Link → Type 0) → (P link.Ends → ⊥) → (P link.Fails → ⊥) → P (linkOf R W i v c) → 0 < i
   unfolding linkOf
-  kept-before =
-      cond-cases (λ (x : Link). x ≡ link.Kept → 0 < i) (startHolds R i l v c) (λ _ e. let z : _≡_ {A = ℕ} 0 1 = cc in absurd (omega arith))
-      (λ _. cond-cases (λ (x : Link). x ≡ link.Kept → 0 < i) (keptHolds R i l (labelIn R W (i - 1) v c)) (λ t _. kept-facts R i l (labelIn R W (i - 1) v c) t .before)
-      (λ _. cond-cases (λ (x : Link). x ≡ link.Kept → 0 < i) (arcHolds R i l v a reached) (λ t _. arc-facts R i l v a reached t .before) (λ _ e. let z : _≡_ {A = ℕ} 0 1 = cc in absurd (omega arith))))
+  lead-before P no-end no-fail =
+      cond-cases (λ (x : Link). P x → 0 < i) (startHolds R i l v c) (λ _ p. absurd (no-end p))
+      (λ _. cond-cases (λ (x : Link). P x → 0 < i) (keptHolds R i l (labelIn R W (i - 1) v c)) (λ t _. kept-facts R i l (labelIn R W (i - 1) v c) t .before)
+      (λ _. cond-cases (λ (x : Link). P x → 0 < i) (arcHolds R i l v a reached) (λ t _. arc-facts R i l v a reached t .before) (λ _ p. absurd (no-fail p))))
+
+  pub kept-before : linkOf R W i v c ≡ link.Kept → 0 < i
+  kept-before = lead-before (λ (x : Link). x ≡ link.Kept) (λ e. let z : _≡_ {A = ℕ} 0 1 = cc in omega arith) (λ e. let z : _≡_ {A = ℕ} 0 1 = cc in omega arith)
 
   pub came-before : (x u f : ℕ) → linkOf R W i v c ≡ link.Came x u f → 0 < i
-  unfolding linkOf
-  came-before x u f =
-      cond-cases (λ (y : Link). y ≡ link.Came x u f → 0 < i) (startHolds R i l v c) (λ _ e. let z : _≡_ {A = ℕ} 0 1 = cc in absurd (omega arith))
-      (λ _. cond-cases (λ (y : Link). y ≡ link.Came x u f → 0 < i) (keptHolds R i l (labelIn R W (i - 1) v c)) (λ t _. kept-facts R i l (labelIn R W (i - 1) v c) t .before)
-      (λ _. cond-cases (λ (y : Link). y ≡ link.Came x u f → 0 < i) (arcHolds R i l v a reached) (λ t _. arc-facts R i l v a reached t .before) (λ _ e. let z : _≡_ {A = ℕ} 0 1 = cc in absurd (omega arith))))
+  came-before x u f = lead-before (λ (y : Link). y ≡ link.Came x u f) (λ e. let z : _≡_ {A = ℕ} 0 1 = cc in omega arith) (λ e. let z : _≡_ {A = ℕ} 0 1 = cc in omega arith)

@@ -7,7 +7,6 @@ use native.Mathlib.Omega.{arith}
 use lib.ListN.{length, take, drop, length-drop, drop-of-length-le}
 use lib.Seq.{take-nil, take-all}
 use Rattle.words.specs.Pieces.{at}
-use Rattle.words.proofs.Pieces.{piece-part}
 use Rattle.request.specs.Request.{Req}
 use Rattle.request.specs.Shape.{cells}
 use Rattle.request.specs.Accepted.{Regular, Small, Fits}
@@ -62,7 +61,3 @@ module _ (xs : List ℕ) (k w : ℕ) where
   piece-some h =
       let n = length-drop (k * w) xs in
       take-all (length xs - k * w) (drop (k * w) xs) (omega arith) ∙ sym (take-all w (drop (k * w) xs) (omega arith))
-
-  -- it holds the piece
-  pub piece-all : take (k * w + w - k * w) (drop (k * w) xs) ≡ at w xs k
-  piece-all = piece-part w xs k

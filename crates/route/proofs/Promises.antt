@@ -1,10 +1,9 @@
 -- What a reader may take from a read-back's answer: a route is a walk with exactly the answered costs, on any label buffer; on the table of the
 -- build every filled label answers its route; each refusal, and the empty cell, is answered exactly when its row decides. Assumes nothing.
-use Prim.Native.Nat.{ℕ, _+_, _*_, _≤_, _<_}
+use Prim.Native.Nat.{ℕ, _*_, _≤_, _<_}
 use mathlib.Core.Path.{_≡_, refl, sym, ap, _∙_, subst}
 use mathlib.Core.Bool.{Bool, true, false, cond, not, _||_}
 use mathlib.Core.List.{List}
-use native.Mathlib.Nat.{mul-assoc}
 use native.Mathlib.Decide.{ℕ-discrete}
 use native.Mathlib.Omega.{arith}
 use lib.ListN.{length, length-take}
@@ -13,28 +12,30 @@ use borrow.Author.Tests.{eqb-true}
 use Rattle.words.specs.Pieces.{write}
 use Rattle.words.specs.Rows.{Weighed, clear, refused, weigh, row, Decides, NoneHolds, settle}
 use Rattle.words.proofs.Rows.{weigh-clear-front, weigh-clear-back, clear-cons, refused-decides, decides-refused, none-clear, clear-none}
+use Rattle.words.proofs.Choices.{or-neither}
 use Rattle.request.specs.Request.{Req, width, reach}
 use Rattle.request.specs.Shape.{cells, labelCount}
 use Rattle.request.specs.Rows.{rows}
 use Rattle.request.specs.Accepted.{Accepted, Regular}
 use Rattle.request.specs.declared.Refusal.{Refusal}
 use Rattle.request.proofs.Accepted.{accepted-regular}
-use Rattle.request.proofs.Tests.{or-neither, nor-left, lt-fails, le-fails}
+use Rattle.request.proofs.Tests.{lt-fails, le-fails}
 use Rattle.rounds.specs.Label.{costs, step, filled}
 use Rattle.rounds.specs.Rounds.{table, labelAt}
+use Rattle.rounds.proofs.Table.{table-words}
 use Rattle.cover.specs.Cover.{route}
 use Rattle.route.specs.Chain.{labelIn, Chain, whole, broken, chain}
 use Rattle.route.specs.Answer.{breaks, arcsOf, backRows, refusal, ended, endingOf, costsAfter, routeAfter}
 use Rattle.route.specs.Walked.{Walked, Sound, RouteRead, Fronts}
 use Rattle.route.specs.declared.Ending.the-variants as ending
 use Rattle.route.proofs.Sound.{chain-sound}
-use Rattle.route.proofs.Answering.{empty-cell, chain-broken, chain-whole, three, none, route-all}
-use Rattle.route.proofs.Tables.{table-long, label-in, table-whole}
+use Rattle.route.proofs.Answering.{layer-asked, Placed, empty-cell, chain-broken, chain-whole, three, none, Answered, route-all}
+use Rattle.route.proofs.Tables.{label-in, table-whole}
 
 -- ---- an ending tells how the rows were weighed
 
 -- a refusal is no route
-no-route : (n p k : ℕ) → refusal n p ≡ ending.Route k → ⊥
+pub no-route : (n p k : ℕ) → refusal n p ≡ ending.Route k → ⊥
 unfolding refusal
 no-route n p k = go (eqb n 15)
   where
@@ -77,14 +78,11 @@ module _ (R : Req) (W : List ℕ) (room i v c : ℕ) where
       go (refused k p) q e = absurd (no-route k p n e)
 
   -- what no row's holding tells
-  record Cleared : Type 0 where
-    accepted : Accepted R
-    long : labelCount R * width R ≤ length W
-    roomy : reach R ≤ room
-    inside : T (not (ltb (R .hops) i || leb (R .nodes) v || leb (cells R) c))
-    unbroken : T (not (breaks (chain R W i v c)))
+  pub record Cleared : Type 0 where
+    pub placed : Placed R W room i v c
+    pub unbroken : T (not (breaks (chain R W i v c)))
 
-  cleared : weigh (backRows R W room i v c) ≡ clear → Cleared
+  pub cleared : weigh (backRows R W room i v c) ≡ clear → Cleared
   unfolding backRows Accepted
   cleared e =
       let p = clear-cons _ _ (weigh-clear-back (rows R) _ e) in
@@ -93,10 +91,12 @@ module _ (R : Req) (W : List ℕ) (room i v c : ℕ) where
       let t = clear-cons _ _ (s .1) in
       let u = clear-cons _ _ (t .1) in
       record {
-        accepted = weigh-clear-front (rows R) _ e;
-        long = nltb→le (length W) (labelCount R * width R) (p .0);
-        roomy = nltb→le room (reach R) (q .0);
-        inside = s .0;
+        placed = record {
+          accepted = weigh-clear-front (rows R) _ e;
+          long = nltb→le (length W) (labelCount R * width R) (p .0);
+          roomy = nltb→le room (reach R) (q .0);
+          inside = s .0;
+        };
         unbroken = u .0;
       }
 
@@ -140,17 +140,20 @@ module _ (R : Req) (W : List ℕ) (room i v c : ℕ) where
 
   -- EMPTY, once the rows before it pass: exactly where the step is 0
   module _ (ok : Accepted R) (long : labelCount R * width R ≤ length W) (roomy : reach R ≤ room) (inside : T (not (ltb (R .hops) i || leb (R .nodes) v || leb (cells R) c))) where
+    abbrev placed : Placed R W room i v c
+    placed = record { accepted = ok; long = long; roomy = roomy; inside = inside }
+
     pub empty-if : step R (labelIn R W i v c) ≡ 0 → endingOf R W room i v c ≡ ending.Empty
     unfolding endingOf refusal
-    empty-if z = ap (λ (w : Weighed). ended w (length arcs)) (empty-cell R W room i v c ok long roomy inside z)
+    empty-if z = ap (λ (w : Weighed). ended w (length arcs)) (empty-cell R W room i v c placed z)
 
     -- a filled label's chain breaks or is whole, and neither is an empty cell
     not-empty : (step R (labelIn R W i v c) ≡ 0 → ⊥) → (ch : Chain) → chain R W i v c ≡ ch → endingOf R W room i v c ≡ ending.Empty → ⊥
     unfolding endingOf
     not-empty some (broken k) q e =
-        let n = empty-number 16 k (sym (ap (λ (w : Weighed). ended w (length arcs)) (chain-broken R W room i v c ok long roomy inside some k q)) ∙ e) in absurd (omega arith)
+        let n = empty-number 16 k (sym (ap (λ (w : Weighed). ended w (length arcs)) (chain-broken R W room i v c placed some k q)) ∙ e) in absurd (omega arith)
     not-empty some (whole ws) q e =
-        let n : ending.Route (length arcs) ≡ ending.Empty = sym (ap (λ (w : Weighed). ended w (length arcs)) (chain-whole R W room i v c ok long roomy inside some ws q)) ∙ e in
+        let n : ending.Route (length arcs) ≡ ending.Empty = sym (ap (λ (w : Weighed). ended w (length arcs)) (chain-whole R W room i v c placed some ws q)) ∙ e in
         let z : _≡_ {A = ℕ} 0 1 = cc in absurd (omega arith)
 
     pub empty-only : endingOf R W room i v c ≡ ending.Empty → step R (labelIn R W i v c) ≡ 0
@@ -176,9 +179,9 @@ module _ (R : Req) (W buffer : List ℕ) (i v c : ℕ) where
       let p = route-clear R W (length buffer) i v c n e in
       let q = cleared R W (length buffer) i v c (p .0) in
       let w = whole-walks (chain R W i v c) (chain-sound R W i v c) (q .unbroken) in
-      let m = q .roomy in
+      let m = q .placed .roomy in
       let h = w .short in
-      let k : i ≤ R .hops = nltb→le (R .hops) i (nor-left (ltb (R .hops) i) (leb (R .nodes) v) (nor-left (ltb (R .hops) i || leb (R .nodes) v) (leb (cells R) c) (q .inside))) in
+      let k = layer-asked (R .hops) (R .nodes) (cells R) i v c (q .placed .inside) in
       record {
         walk = w .walk;
         short = w .short;
@@ -196,14 +199,8 @@ module _ (R : Req) (ok : Accepted R) (W buffer : List ℕ) (front : Fronts R W) 
   regular = accepted-regular R ok
 
   long-enough : labelCount R * width R ≤ length W
-  unfolding Fronts labelCount
-  long-enough =
-      let n = ap length front in
-      let m = length-take (length (table R)) W in
-      let e = table-long R regular in
-      let x = mul-assoc (R .hops + 1) (R .nodes * cells R) (width R) in
-      let y : (R .hops + 1) * (R .nodes * cells R * width R) ≡ (R .hops + 1) * (R .nodes * (cells R * width R)) = ap (λ (k : ℕ). (R .hops + 1) * k) (mul-assoc (R .nodes) (cells R) (width R)) in
-      omega arith
+  unfolding Fronts
+  long-enough = omega (arith, table-words R regular, ap length front, length-take (length (table R)) W)
 
   filled-in : step R (labelIn R W i v c) ≡ 0 → ⊥
   unfolding filled
@@ -213,13 +210,12 @@ module _ (R : Req) (ok : Accepted R) (W buffer : List ℕ) (front : Fronts R W) 
       omega arith
 
   -- the read-back of a filled label answers its route: its arc count, its costs and its arcs
-  pub table-route : (ending.Route (length (route R i v c)) ≡ endingOf R W (length buffer) i v c)
-      × (three (costs R (labelAt R i v c)) ≡ costsAfter R W (length buffer) i v c) × (write buffer 0 (route R i v c) ≡ routeAfter R W buffer i v c)
+  pub table-route : Answered R W buffer i v c (ending.Route (length (route R i v c))) (three (costs R (labelAt R i v c))) (write buffer 0 (route R i v c))
   table-route =
       let e = table-whole R regular W front i v c hi hv hc full in
       let s : arcsOf (chain R W i v c) ≡ route R i v c = ap arcsOf e in
       let inside = or-neither (ltb (R .hops) i || leb (R .nodes) v) (leb (cells R) c) (or-neither (ltb (R .hops) i) (leb (R .nodes) v) (lt-fails hi) (le-fails hv)) (le-fails hc) in
-      route-all R W buffer i v c (chain-whole R W (length buffer) i v c ok long-enough roomy inside filled-in (route R i v c) e)
+      route-all R W buffer i v c (chain-whole R W (length buffer) i v c (record { accepted = ok; long = long-enough; roomy = roomy; inside = inside }) filled-in (route R i v c) e)
       (length (route R i v c)) (ap length (sym s)) (three (costs R (labelAt R i v c))) (write buffer 0 (route R i v c))
       (ap (λ (l : List ℕ). three (costs R l)) (sym (label-in R regular W front i v c hi hv hc))) (ap (write buffer 0) (sym s))
 

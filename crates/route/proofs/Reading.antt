@@ -1,14 +1,14 @@
 -- The read-back of an accepted request, from what the code has found so far: which row decides, and what is answered. Assumes nothing.
 use Prim.Native.Nat.{ℕ, _+_, _-_, _*_, _≤_, _<_}
 use mathlib.Core.Path.{_≡_, refl, sym, ap, _∙_, subst}
-use mathlib.Core.Bool.{Bool, true, false, not, _||_}
+use mathlib.Core.Bool.{Bool, true, false, _||_}
 use mathlib.Core.List.{List, [], _∷_}
 use native.Mathlib.Nat.{mul-le-mul}
 use native.Mathlib.Omega.{arith}
 use lib.ListN.{length, getD, take, length-take, List·getD-eq-default}
-use lib.Dec.{T, leb, ltb, nltb→le}
-use Rattle.words.specs.Pieces.{at, write}
-use Rattle.words.specs.Rows.{clear, refused, weigh}
+use lib.Dec.{leb, ltb}
+use Rattle.words.specs.Pieces.{write}
+use Rattle.words.specs.Rows.{refused, weigh}
 use Rattle.words.proofs.Choices.{true-is, false-is}
 use Rattle.words.proofs.Writes.{write-part}
 use Rattle.request.specs.Request.{Req, asked, width, reach}
@@ -18,15 +18,13 @@ use Rattle.request.specs.Answer.{shapeOf}
 use Rattle.request.specs.declared.Request.{Request}
 use Rattle.request.specs.declared.Shape.{Shape}
 use Rattle.request.proofs.Accepted.{accepted-regular, accepted-small, accepted-fits}
-use Rattle.request.proofs.Tests.{nor-left}
-use Rattle.rounds.specs.Label.{costs, step}
-use Rattle.route.specs.Chain.{labelIn, Chain, whole, broken, chain}
+use Rattle.rounds.specs.Label.{costs}
+use Rattle.route.specs.Chain.{Chain, whole, broken}
 use Rattle.route.specs.Links.{Within, trailOf}
 use Rattle.route.specs.Answer.{arcsOf, backRows}
 use Rattle.route.specs.declared.Trail.the-variants as trail
 use Rattle.route.proofs.Places.{within-asked}
-use Rattle.route.proofs.Leading.{label-is}
-use Rattle.route.proofs.Answering.{short-labels, short-route, beyond-asked, empty-cell, chain-broken, chain-whole, three}
+use Rattle.route.proofs.Answering.{Placed, short-labels, short-route, beyond-asked, three}
 
 -- ---- the chain from its answer
 
@@ -63,7 +61,8 @@ module _ (q : Request) (arcs : List ℕ) (acc : Accepted (asked q arcs)) (s : Sh
   pub cells-is : s .cells ≡ cells (asked q arcs)
   cells-is = ap (λ (x : Shape). x .cells) e
 
-  words-is : s .labels * (q .criteria + 2) ≡ labelCount (asked q arcs) * width (asked q arcs)
+  -- so many words has the table
+  pub words-is : s .labels * (q .criteria + 2) ≡ labelCount (asked q arcs) * width (asked q arcs)
   words-is = ap (λ (x : Shape). x .labels * (q .criteria + 2)) e
 
   pub words-fit : s .labels * (q .criteria + 2) ≤ 5242880
@@ -100,27 +99,5 @@ module _ (q : Request) (arcs : List ℕ) (acc : Accepted (asked q arcs)) (s : Sh
           pub at-beyond : b ≡ true → weigh (backRows (asked q arcs) W room i v c) ≡ refused 14 0
           at-beyond t = beyond-asked R W room i v c acc long-enough roomy-enough (true-is (sym asked-told ∙ t))
 
-          module _ (f : b ≡ false) where
-            inside : T (not (ltb (R .hops) i || leb (R .nodes) v || leb (cells R) c))
-            inside = false-is (sym asked-told ∙ f)
-
-            pub inside-layer : i ≤ q .hops
-            inside-layer = nltb→le (q .hops) i (nor-left (ltb (R .hops) i) (leb (R .nodes) v) (nor-left (ltb (R .hops) i || leb (R .nodes) v) (leb (cells R) c) inside))
-
-            -- the label X that was found and its step k
-            module _ (X : List ℕ) (x : X ≡ at (q .criteria + 2) W ((i * q .nodes + v) * s .cells + c)) (k : ℕ) (is-k : k ≡ step (asked q arcs) X) where
-              pub asked-label : X ≡ labelIn (asked q arcs) W i v c
-              asked-label = label-is R W X (s .cells) i v c cells-is x
-
-              asked-step : k ≡ step R (labelIn R W i v c)
-              asked-step = is-k ∙ ap (step R) asked-label
-
-              pub at-empty : k ≡ 0 → weigh (backRows (asked q arcs) W room i v c) ≡ refused 15 0
-              at-empty z = empty-cell R W room i v c acc long-enough roomy-enough inside (sym asked-step ∙ z)
-
-              module _ (some : k ≡ 0 → ⊥) where
-                pub at-broken : (j : ℕ) → trail.Broke j ≡ trailOf (chain (asked q arcs) W i v c) → weigh (backRows (asked q arcs) W room i v c) ≡ refused 16 j
-                at-broken j h = chain-broken R W room i v c acc long-enough roomy-enough inside (λ z. some (asked-step ∙ z)) j (was-broken (chain R W i v c) j h)
-
-                pub at-whole : (n : ℕ) → trail.Whole n ≡ trailOf (chain (asked q arcs) W i v c) → weigh (backRows (asked q arcs) W room i v c) ≡ clear
-                at-whole n h = chain-whole R W room i v c acc long-enough roomy-enough inside (λ z. some (asked-step ∙ z)) (arcsOf (chain R W i v c)) (was-whole (chain R W i v c) n h .0)
+          pub placed : b ≡ false → Placed (asked q arcs) W room i v c
+          placed f = record { accepted = acc; long = long-enough; roomy = roomy-enough; inside = false-is (sym asked-told ∙ f) }

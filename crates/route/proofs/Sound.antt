@@ -1,10 +1,10 @@
 -- A whole chain, in any words, is a walk with the label's costs. Assumes nothing.
-use Prim.Native.Nat.{ℕ, zero, suc, _+_, _-_, _<_, zero-le}
+use Prim.Native.Nat.{ℕ, zero, suc, _+_, _-_, _≤_, _<_, zero-le}
 use mathlib.Core.Path.{sym, ap, _∙_, subst}
 use mathlib.Core.List.{List, [], _∷_, _++_}
 use native.Mathlib.Nat.{le-refl}
 use native.Mathlib.Omega.{arith}
-use lib.ListN.{replicate}
+use lib.ListN.{length, replicate}
 use lib.Dec.{T, lt→ltb}
 use Rattle.words.proofs.Choices.{cond-cases}
 use Rattle.request.specs.Request.{Req, tail, arcCosts, reach}
@@ -12,6 +12,7 @@ use Rattle.rounds.specs.Label.{step, from, filled, sum}
 use Rattle.cover.specs.Walk.{Walk, sums, sumsFrom}
 use Rattle.cover.proofs.Walks.{walk-snoc, sums-snoc, length-snoc}
 use Rattle.route.specs.Chain.{labelIn, Chain, whole, broken, push, startHolds, keptHolds, arcHolds, chainIn, chain}
+use Rattle.route.specs.Answer.{arcsOf, breakLayer}
 use Rattle.route.specs.Walked.{Sound}
 use Rattle.route.proofs.Holding.{start-facts, kept-facts, arc-facts}
 
@@ -77,3 +78,19 @@ module _ (R : Req) (W : List ℕ) where
   pub chain-sound : (i v c : ℕ) → Sound R W i v c (chain R W i v c)
   unfolding chain
   chain-sound i v c = sound-in (suc (reach R)) i v c
+
+  -- it has no more arcs than its layer
+  pub chain-short : (i v c : ℕ) → length (arcsOf (chain R W i v c)) ≤ i
+  chain-short i v c = go (chain R W i v c) (chain-sound i v c)
+    where
+      go : (ch : Chain) → Sound R W i v c ch → length (arcsOf ch) ≤ i
+      go (whole ws) s = s .1 .short
+      go (broken k) s = zero-le
+
+  -- and breaks in its own layer or one before
+  pub chain-breaks : (i v c : ℕ) → breakLayer (chain R W i v c) ≤ i
+  chain-breaks i v c = go (chain R W i v c) (chain-sound i v c)
+    where
+      go : (ch : Chain) → Sound R W i v c ch → breakLayer ch ≤ i
+      go (whole ws) s = zero-le
+      go (broken k) s = s

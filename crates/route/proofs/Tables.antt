@@ -3,13 +3,13 @@ use Prim.Native.Nat.{ℕ, zero, suc, _+_, _-_, _*_, _≤_, _<_, zero-le, suc-le-
 use mathlib.Core.Path.{_≡_, refl, sym, ap, ap₂, _∙_, subst}
 use mathlib.Core.Bool.{not}
 use mathlib.Core.List.{List, []}
-use native.Mathlib.Nat.{le-of-lt, mul-assoc, add-mul, zero-add, add-sub-cancel-left}
+use native.Mathlib.Nat.{le-of-lt, zero-add, add-sub-cancel-left}
 use native.Mathlib.Omega.{arith}
 use lib.ListN.{length, replicate, length-replicate}
 use lib.Dec.{T, not-T}
 use Rattle.words.specs.Pieces.{part, at, write}
 use Rattle.words.proofs.Choices.{is-true}
-use Rattle.words.proofs.Pieces.{at-length, piece-end, join-length, join-at}
+use Rattle.words.proofs.Pieces.{piece-end, join-at, at-at}
 use Rattle.words.proofs.Writes.{part-part, part-write-same}
 use Rattle.request.specs.Request.{Req, width, arcCount, tail, head, arcCosts, reach}
 use Rattle.request.specs.Shape.{cells}
@@ -20,9 +20,10 @@ use Rattle.rounds.proofs.Labels.{costs-length, step-label, from-label, start-co
 use Rattle.rounds.proofs.Start.{start-block, start-label, start-only}
 use Rattle.rounds.proofs.Node.{Origin, of-old, of-arc}
 use Rattle.rounds.proofs.Round.{layer-length, keep-at, keep-filled, origin}
+use Rattle.rounds.proofs.Table.{table-length}
 use Rattle.cover.specs.Cover.{route}
 use Rattle.cover.proofs.Routes.{route-kept, route-arc}
-use Rattle.cover.proofs.Sound.{label-long}
+use Rattle.cover.proofs.Sound.{label-long, block-whole}
 use Rattle.route.specs.Chain.{labelIn, whole, push, startHolds, keptHolds, arcHolds, chain}
 use Rattle.route.specs.Walked.{Fronts}
 use Rattle.route.specs.declared.Link.the-variants as link
@@ -31,13 +32,6 @@ use Rattle.route.proofs.Leading.{lead-ends, lead-kept, lead-came}
 use Rattle.route.proofs.Following.{chain-ends, chain-kept, chain-came}
 
 -- ---- a label of the table
-
--- a piece of a piece
-at-nest : (w n : ℕ) (L : List ℕ) (v c : ℕ) → c < n → at w (at (n * w) L v) c ≡ at w L (v * n + c)
-unfolding at
-at-nest w n L v c h =
-    part-part L (v * (n * w)) (n * w) (c * w) w (piece-end w n c h)
-    ∙ ap (λ (a : ℕ). part L a w) (ap (λ (z : ℕ). z + c * w) (sym (mul-assoc v n w)) ∙ sym (add-mul (v * n) c w))
 
 -- what the build leaves has the table in front
 pub build-fronts : (R : Req) (labels : List ℕ) → length (table R) ≤ length labels → Fronts R (write labels 0 (table R))
@@ -48,15 +42,11 @@ module _ (R : Req) (ok : Regular R) where
   abbrev M : ℕ
   M = R .nodes * span R
 
-  pub table-long : length (table R) ≡ (R .hops + 1) * (R .nodes * span R)
-  unfolding table
-  table-long = join-length M (layer R) (R .hops + 1) (λ i _. layer-length R ok i)
-
   module _ (W : List ℕ) (front : Fronts R W) where
     layer-in : (i : ℕ) → i ≤ R .hops → at (R .nodes * span R) W i ≡ layer R i
     unfolding Fronts at table
     layer-in i h =
-        let e : i * M + M ≤ length (table R) = subst (λ (n : ℕ). i * M + M ≤ n) (sym table-long) (piece-end M (R .hops + 1) i (omega arith)) in
+        let e : i * M + M ≤ length (table R) = subst (λ (n : ℕ). i * M + M ≤ n) (sym (table-length R ok)) (piece-end M (R .hops + 1) i (omega arith)) in
         let z = zero-add (i * M) in
         sym (part-part W 0 (length (table R)) (i * M) M e ∙ ap (λ (a : ℕ). part W a M) z) ∙ ap (λ (X : List ℕ). part X (i * M) M) front ∙ in-table
       where
@@ -67,7 +57,7 @@ module _ (R : Req) (ok : Regular R) where
     pub label-in : (i v c : ℕ) → i ≤ R .hops → v < R .nodes → c < cells R → labelIn R W i v c ≡ labelAt R i v c
     unfolding labelIn labelAt labelOf block
     label-in i v c hi hv hc =
-        sym (ap (λ (X : List ℕ). at (width R) X c) (at-nest (span R) (R .nodes) W i v hv) ∙ at-nest (width R) (cells R) W (i * R .nodes + v) c hc)
+        sym (ap (λ (X : List ℕ). at (width R) X c) (at-at (span R) (R .nodes) W i v hv) ∙ at-at (width R) (cells R) W (i * R .nodes + v) c hc)
         ∙ ap (λ (X : List ℕ). at (width R) (at (span R) X v) c) (layer-in i hi)
 
     -- ---- where it leads
@@ -158,7 +148,7 @@ module _ (R : Req) (ok : Regular R) where
         go : Origin R (λ a. block R (layer R i) (tail R a)) v (keepBlock R (block R (layer R i) v)) c (labelAt R (suc i) v c)
             → ((u f : ℕ) → u < R .nodes → f < cells R → T (filled R (labelAt R i u f)) → chain R W i u f ≡ whole (route R i u f)) → chain R W (suc i) v c ≡ whole (route R (suc i) v c)
         go (of-old u e) rec =
-            let w = at-length (span R) (layer R i) (R .nodes) (layer-length R ok i) v hv in
+            let w = block-whole R ok i v hv in
             let t′ = keep-filled R (block R (layer R i) v) w c hc u in
             let e′ : labelAt R (suc i) v c ≡ kept R (labelAt R i v c) = e ∙ keep-at R (block R (layer R i) v) w c hc t′ in
             keeps i v c hi hv hc e′ ∙ rec v c hv hc t′ ∙ ap whole (sym (route-kept R i v c (labelAt R i v c) (label-long R ok i v c hv hc) e′))

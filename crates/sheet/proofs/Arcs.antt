@@ -20,7 +20,7 @@ use Rattle.sheet.specs.Grammar.{lf, tab, arcWord, askWord, arcLine, askL
 use Rattle.sheet.proofs.Scan.{lines-at, lines-last}
 
 -- a line that is an arc is one by the line's own form
-pub kind-arc : (d m : ℕ) (l vs : List ℕ) → kindOf d m l ≡ anArc vs → (arcLine d l ≡ good vs) × (m < 512)
+kind-arc : (d m : ℕ) (l vs : List ℕ) → kindOf d m l ≡ anArc vs → (arcLine d l ≡ good vs) × (m < 512)
 unfolding kindOf
 kind-arc d m l vs e = go (ltb m 512) refl (arcLine d l) (askLine d l) e
   where

@@ -9,7 +9,7 @@ use lib.Dec.{ltb, eqb}
 use borrow.Author.Tests.{ltb-false, eqb-true}
 use Rattle.words.specs.Rows.{Row, Weighed, clear, refused, weigh, row, NoneHolds}
 use Rattle.words.proofs.Rows.{clear-none}
-use Rattle.words.proofs.Choices.{is-false}
+use Rattle.words.proofs.Choices.{is-false, not-false}
 use Rattle.request.specs.declared.Request.{Request}
 use Rattle.text.specs.Number.{anyOver}
 use Rattle.sheet.specs.Grammar.{Contents, whole, broken, sheetOf}
@@ -31,11 +31,6 @@ passed rows e k h = is-false (row rows k .holds) (clear-none rows e k h)
 or-false : (a b : Bool) → (a || b) ≡ false → (a ≡ false) × (b ≡ false)
 or-false true b e = absurd (false≢true (sym e))
 or-false false b e = (refl, e)
-
--- a test that came out true
-not-false : (a : Bool) → not a ≡ false → a ≡ true
-not-false true e = refl
-not-false false e = sym e
 
 -- ---- the reader's
 

@@ -20,7 +20,7 @@ cut-whole l x p =
 
 module _ (l x : List ℕ) (p : before lf (l ++ (lf ∷ x)) ≡ l) where
   -- the line is not all that there is
-  pub cut-short : length l < length (l ++ (lf ∷ x))
+  cut-short : length l < length (l ++ (lf ∷ x))
   cut-short = rw (length-append l (lf ∷ x)) (omega arith)
 
   -- what follows its LF

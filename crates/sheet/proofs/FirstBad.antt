@@ -54,6 +54,10 @@ lines-more : (l p : List ℕ) → WholeLines p → WholeLines (l ++ (lf ∷ p))
 lines-more l p (inl e) = inr (l, ap (λ (x : List ℕ). l ++ (lf ∷ x)) e)
 lines-more l p (inr q) = inr (l ++ (lf ∷ q .0), ap (λ (x : List ℕ). l ++ (lf ∷ x)) (q .1) ∙ sym (append-assoc l (lf ∷ q .0) (lf ∷ [])))
 
+-- and before the parts of the rest
+parts-more : (l r front rest : List ℕ) → r ≡ front ++ rest → l ++ (lf ∷ r) ≡ (l ++ (lf ∷ front)) ++ rest
+parts-more l r front rest e = ap (λ (x : List ℕ). l ++ (lf ∷ x)) e ∙ sym (append-assoc l (lf ∷ front) rest)
+
 -- the line that stands in front is the one that is cut out
 same-line : (s line after : List ℕ) → before lf line ≡ line → s ≡ line ++ (lf ∷ after) → before lf s ≡ line
 same-line s line after p e = ap (before lf) e ∙ cut-whole line after p
@@ -107,7 +111,7 @@ module _ (n d m k : ℕ) (l r : List ℕ) (p : before lf l ≡ l) where
       record {
         front = l ++ (lf ∷ b .front);
         rest = b .rest;
-        parts = ap (λ (x : List ℕ). l ++ (lf ∷ x)) (b .parts) ∙ sym (append-assoc l (lf ∷ b .front) (b .rest));
+        parts = parts-more l r (b .front) (b .rest) (b .parts);
         lines = lines-more l (b .front) (b .lines);
         place = omega (arith, b .place, ends-line l (b .front) p);
         tail = b .tail;
@@ -248,7 +252,7 @@ later-is-bad n d l x k p q b =
     record {
       front = l ++ (lf ∷ b .front);
       rest = b .rest;
-      parts = ap (λ (y : List ℕ). l ++ (lf ∷ y)) (b .parts) ∙ sym (append-assoc l (lf ∷ b .front) (b .rest));
+      parts = parts-more l x (b .front) (b .rest) (b .parts);
       lines = lines-more l (b .front) (b .lines);
       place = omega (arith, b .place, ends-line l (b .front) p);
       good-before = (b .tail, ap isBroken (ap sheetOf (append-assoc l (lf ∷ b .front) (b .tail)) ∙ q (b .front ++ b .tail)) ∙ b .good-before);

@@ -9,22 +9,16 @@ use lib.Seq.{drop-drop}
 use Rattle.words.specs.Pieces.{part}
 use Rattle.request.specs.declared.Request.{Request}
 use Rattle.text.specs.Line.{partedWidth, lineText}
-use Rattle.text.proofs.Puts.{parted-width, width-append, line-length}
+use Rattle.text.proofs.Puts.{width-append, line-width}
 use Rattle.sheet.specs.Grammar.{tab, tracksWord, arcWord, askWord}
 use Rattle.sheet.specs.Rendering.{arcLines, sheetText}
 use Rattle.sheet.specs.Writer.{asksOf, written, Ranged}
-
--- ---- a line's length
-
--- its word, its numbers and its LF
-line-width : (word vs : List ℕ) → length (lineText tab word vs) ≡ length word + partedWidth vs + 1
-line-width word vs = line-length tab word vs ∙ ap (λ (k : ℕ). length word + k + 1) (parted-width tab vs)
 
 -- ---- the arcs, one after another
 
 module _ (w : ℕ) where
   -- i arcs, and then j more
-  pub arcs-split : (i j : ℕ) (words : List ℕ) → arcLines w (i + j) words ≡ arcLines w i words ++ arcLines w j (drop (i * w) words)
+  arcs-split : (i j : ℕ) (words : List ℕ) → arcLines w (i + j) words ≡ arcLines w i words ++ arcLines w j (drop (i * w) words)
   unfolding arcLines
   arcs-split zero j words =
       let a : 0 + j ≡ j = zero-add j in
@@ -69,7 +63,7 @@ module _ (w : ℕ) where
       let f : length words ≡ m * w + w = e ∙ suc-mul m w in
       let ih = arcs-width m (drop w words) (length-drop w words ∙ omega arith) in
       let a = length-append (lineText tab arcWord (take w words)) (arcLines w m (drop w words)) in
-      let b = line-width arcWord (take w words) in
+      let b = line-width tab arcWord (take w words) in
       let c : partedWidth words ≡ partedWidth (take w words) + partedWidth (drop w words) =
       ap partedWidth (sym (take-append-drop w words)) ∙ width-append (take w words) (drop w words) in
       a ∙ omega (arith, ih, b, c)
@@ -96,7 +90,7 @@ module _ (r : Request) (words : List ℕ) (g : Ranged (r .criteria) words) where
       let m = length words / (r .criteria + 2) in
       let a = length-append (lineText tab tracksWord (r .nodes ∷ r .criteria ∷ [])) (arcLines (r .criteria + 2) m words ++ lineText tab askWord (asksOf r)) in
       let b = length-append (arcLines (r .criteria + 2) m words) (lineText tab askWord (asksOf r)) in
-      let c = line-width tracksWord (r .nodes ∷ r .criteria ∷ []) in
-      let d = line-width askWord (asksOf r) in
+      let c = line-width tab tracksWord (r .nodes ∷ r .criteria ∷ []) in
+      let d = line-width tab askWord (asksOf r) in
       let e = arcs-width (r .criteria + 2) m words whole-arcs in
       a ∙ omega arith

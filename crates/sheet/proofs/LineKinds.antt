@@ -1,6 +1,6 @@
 -- What one line is: an arc, the ask, or neither, and what the functions that read it tell. Assumes nothing.
 use Prim.Native.Nat.{ℕ, _*_, _≤_, _<_}
-use mathlib.Core.Path.{_≡_, refl, ap, sym, _∙_}
+use mathlib.Core.Path.{_≡_, refl, ap, sym, _∙_, subst}
 use mathlib.Core.List.{List, [], _∷_, _++_, append-nil}
 use mathlib.Core.Bool.{true, false}
 use mathlib.Core.Logic.{⊎-elim}
@@ -8,7 +8,7 @@ use native.Mathlib.Omega.{arith}
 use lib.ListN.{length, getD, drop, drop-of-length-le}
 use borrow.Author.Tests.{lt-ltb, le-ltb}
 use Rattle.words.specs.Pieces.{write}
-use Rattle.words.proofs.Writes.{write-front}
+use Rattle.words.proofs.Writes.{write-front, spelled-all}
 use Rattle.text.specs.declared.Line.{Line}
 use Rattle.text.specs.declared.Line.the-variants.{Good, Bad}
 use Rattle.text.specs.Line.{Got, good, bad, lineOf, answerOf, takenOf}
@@ -63,22 +63,11 @@ askFrom l = record { source = getD l 0 0; hops = getD l 1 0; p1 = getD l 2 0; q1
 
 -- four numbers that were read, and 0 over 1 after them
 padded-four : (vs : List ℕ) → length vs ≡ 4 → askFrom (padded 4 vs) ≡ askedFrom vs
-padded-four [] h = absurd (omega arith)
-padded-four (a ∷ []) h = absurd (omega arith)
-padded-four (a ∷ (b ∷ [])) h = absurd (omega arith)
-padded-four (a ∷ (b ∷ (c ∷ []))) h = absurd (omega arith)
-padded-four (a ∷ (b ∷ (c ∷ (d ∷ [])))) h = refl
-padded-four (a ∷ (b ∷ (c ∷ (d ∷ (e ∷ vs))))) h = absurd (omega arith)
+padded-four vs h = subst (λ (l : List ℕ). askFrom (padded 4 l) ≡ askedFrom l) (spelled-all vs 4 h) refl
 
 -- six numbers that were read
 padded-six : (vs : List ℕ) → length vs ≡ 6 → askFrom (padded 6 vs) ≡ askedFrom vs
-padded-six [] h = absurd (omega arith)
-padded-six (a ∷ []) h = absurd (omega arith)
-padded-six (a ∷ (b ∷ [])) h = absurd (omega arith)
-padded-six (a ∷ (b ∷ (c ∷ []))) h = absurd (omega arith)
-padded-six (a ∷ (b ∷ (c ∷ (d ∷ [])))) h = absurd (omega arith)
-padded-six (a ∷ (b ∷ (c ∷ (d ∷ (e ∷ []))))) h = absurd (omega arith)
-padded-six (a ∷ (b ∷ (c ∷ (d ∷ (e ∷ (f ∷ vs)))))) h = refl
+padded-six vs h = subst (λ (l : List ℕ). askFrom (padded 6 l) ≡ askedFrom l) (spelled-all vs 6 h) refl
 
 -- the numbers v that were read, in front of those that were there
 pub padded-ask : (d : ℕ) (v vs : List ℕ) → 2 ≤ d → d ≤ 3 → v ≡ vs → length vs ≡ d * 2 → askFrom (padded (d * 2) v) ≡ askedFrom vs

@@ -66,11 +66,11 @@ module _ (w vs t : List ℕ) (p : Plain w) where
   line-then = append-assoc line (lf ∷ []) t
 
   -- the line is what is cut out
-  pub line-cut : before lf (line ++ (lf ∷ t)) ≡ line
+  line-cut : before lf (line ++ (lf ∷ t)) ≡ line
   line-cut = plain-line w vs p (lf ∷ t) ∙ rw (before-first lf t) (append-nil line)
 
   -- so it is judged, and then what follows
-  pub lines-text : (n d m k : ℕ) → linesFrom n d m k [] (lineText tab w vs ++ t) ≡ judge (kindOf d m line) n d m k t (linesFrom n d (m + 1) (k + 1) [] t)
+  lines-text : (n d m k : ℕ) → linesFrom n d m k [] (lineText tab w vs ++ t) ≡ judge (kindOf d m line) n d m k t (linesFrom n d (m + 1) (k + 1) [] t)
   lines-text n d m k = ap (linesFrom n d m k []) line-then ∙ lines-cut line t line-cut n d m k
 
 -- ---- the kind of a line as it is written

@@ -12,6 +12,7 @@ use lib.Dec.{eqb}
 use Rattle.words.specs.Pieces.{write}
 use Rattle.words.specs.Bounds.{AtMost}
 use Rattle.words.proofs.Bounds.{atMost-at, atMost-none, atMost-cons, atMost-append, atMost-take, atMost-drop}
+use Rattle.words.proofs.Writes.{spelled-all}
 use Rattle.request.specs.declared.Request.{Request}
 use Rattle.text.specs.Number.{largest, anyOver}
 use Rattle.text.proofs.Fields.{lt-or-le}
@@ -37,23 +38,11 @@ use Rattle.sheet.proofs.Told.{read-told, written-told}
 
 -- those of a request that was read are those that were read
 asks-four : (n : ℕ) (asks : List ℕ) → length asks ≡ 4 → take 4 (askNumbers (requestFrom n 2 asks)) ≡ asks
-asks-four n [] h = absurd (omega arith)
-asks-four n (a ∷ []) h = absurd (omega arith)
-asks-four n (a ∷ (b ∷ [])) h = absurd (omega arith)
-asks-four n (a ∷ (b ∷ (c ∷ []))) h = absurd (omega arith)
-asks-four n (a ∷ (b ∷ (c ∷ (d ∷ [])))) h = refl
-asks-four n (a ∷ (b ∷ (c ∷ (d ∷ (e ∷ asks))))) h = absurd (omega arith)
+asks-four n asks h = subst (λ (l : List ℕ). take 4 (askNumbers (requestFrom n 2 l)) ≡ l) (spelled-all asks 4 h) refl
 
 -- of three criteria
 asks-six : (n : ℕ) (asks : List ℕ) → length asks ≡ 6 → take 6 (askNumbers (requestFrom n 3 asks)) ≡ asks
-asks-six n [] h = absurd (omega arith)
-asks-six n (a ∷ []) h = absurd (omega arith)
-asks-six n (a ∷ (b ∷ [])) h = absurd (omega arith)
-asks-six n (a ∷ (b ∷ (c ∷ []))) h = absurd (omega arith)
-asks-six n (a ∷ (b ∷ (c ∷ (d ∷ [])))) h = absurd (omega arith)
-asks-six n (a ∷ (b ∷ (c ∷ (d ∷ (e ∷ []))))) h = absurd (omega arith)
-asks-six n (a ∷ (b ∷ (c ∷ (d ∷ (e ∷ (f ∷ [])))))) h = refl
-asks-six n (a ∷ (b ∷ (c ∷ (d ∷ (e ∷ (f ∷ (g ∷ asks))))))) h = absurd (omega arith)
+asks-six n asks h = subst (λ (l : List ℕ). take 6 (askNumbers (requestFrom n 3 l)) ≡ l) (spelled-all asks 6 h) refl
 
 -- d is 2 or 3
 two-or-three : (d : ℕ) → 2 ≤ d → d ≤ 3 → (d ≡ 2) ⊎ (d ≡ 3)
@@ -185,18 +174,9 @@ same-numbers r words sheet arcs n e h =
     let w = written-told r words sheet n (sym e) in
     rw (w .stored) (reads-back r words arcs (length sheet) (w .can-be) h)
 
--- with three criteria nothing is excepted
-four-are : (ratios : List ℕ) → length ratios ≡ 4 → getD ratios 0 0 ∷ getD ratios 1 0 ∷ getD ratios 2 0 ∷ getD ratios 3 0 ∷ [] ≡ ratios
-four-are [] h = absurd (omega arith)
-four-are (a ∷ []) h = absurd (omega arith)
-four-are (a ∷ (b ∷ [])) h = absurd (omega arith)
-four-are (a ∷ (b ∷ (c ∷ []))) h = absurd (omega arith)
-four-are (a ∷ (b ∷ (c ∷ (d ∷ [])))) h = refl
-four-are (a ∷ (b ∷ (c ∷ (d ∷ (e ∷ ratios))))) h = absurd (omega arith)
-
--- then the request comes back as it is
+-- with three criteria nothing is excepted: the request comes back as it is
 pub all-comes-back : (r : Request) → r .criteria ≡ 3 → length (r .ratios) ≡ 4 → comesBack r ≡ r
 all-comes-back r d h =
     let second : eqb (r .criteria) 2 ≡ false = ap (λ (k : ℕ). eqb k 2) d in
     rw second
-    (ap (λ (l : List ℕ). record { nodes = r .nodes; criteria = r .criteria; source = r .source; hops = r .hops; ratios = l }) (four-are (r .ratios) h))
+    (ap (λ (l : List ℕ). record { nodes = r .nodes; criteria = r .criteria; source = r .source; hops = r .hops; ratios = l }) (spelled-all (r .ratios) 4 h))

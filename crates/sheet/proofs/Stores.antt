@@ -36,7 +36,7 @@ askedOf (whole n d m words asks) = asks
 askedOf (broken k) = []
 
 -- a sheet of the form f
-pub whole-was : (p : Contents) (f : Form) → formOf p ≡ Whole f → p ≡ whole (f .nodes) (f .criteria) (f .arcs) (wordsOf p) (askedOf p)
+whole-was : (p : Contents) (f : Form) → formOf p ≡ Whole f → p ≡ whole (f .nodes) (f .criteria) (f .arcs) (wordsOf p) (askedOf p)
 whole-was (whole n d m words asks) f e =
     let q : record { nodes = n; criteria = d; arcs = m; ask = askedFrom asks } ≡ f = cc in
     ap (λ (f : Form). whole (f .nodes) (f .criteria) (f .arcs) words asks) q

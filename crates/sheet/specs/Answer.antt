@@ -12,8 +12,3 @@ refusalSaid r = r .number ∷ r .place ∷ []
 abbrev pub told : Weighed → ℕ → List ℕ
 told clear n = 0 ∷ 0 ∷ n ∷ []
 told (refused number place) n = number ∷ place ∷ []
-
--- x where no row holds, y on a refusal
-abbrev pub unlessRefused {ℓ} : {A : Type ℓ} → Weighed → A → A → A
-unlessRefused clear x y = x
-unlessRefused (refused number place) x y = y

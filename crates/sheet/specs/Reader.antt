@@ -5,12 +5,12 @@ use mathlib.Core.List.{List, [], _∷_, _++_}
 use lib.ListN.{length, getD}
 use lib.Dec.{ltb}
 use Rattle.words.specs.Pieces.{write}
-use Rattle.words.specs.Rows.{Row, weigh}
+use Rattle.words.specs.Rows.{Row, weigh, settle}
 use Rattle.request.specs.declared.Request.{Request}
 use Rattle.sheet.specs.declared.Outcome.{Outcome}
 use Rattle.sheet.specs.declared.Outcome.the-variants.{Sheet, Refused}
 use Rattle.sheet.specs.Grammar.{Contents, whole, broken, sheetOf}
-use Rattle.sheet.specs.Answer.{refusalSaid, told, unlessRefused}
+use Rattle.sheet.specs.Answer.{refusalSaid, told}
 
 -- whether the form is broken
 abbrev pub isBroken : Contents → Bool
@@ -75,8 +75,8 @@ readSays s room = told (weigh (readerRows s room)) (length (wordsOf (sheetOf s))
 
 -- the request that is read
 unfoldable pub readRequest : List ℕ → ℕ → Request
-readRequest s room = unlessRefused (weigh (readerRows s room)) (requestOf (sheetOf s)) noRequest
+readRequest s room = settle (weigh (readerRows s room)) (requestOf (sheetOf s)) noRequest
 
 -- the lent arc words afterwards: the sheet's in front where it is read, and on a refusal as they came
 unfoldable pub arcsAfter : List ℕ → List ℕ → List ℕ
-arcsAfter s arcs = unlessRefused (weigh (readerRows s (length arcs))) (write arcs 0 (wordsOf (sheetOf s))) arcs
+arcsAfter s arcs = settle (weigh (readerRows s (length arcs))) (write arcs 0 (wordsOf (sheetOf s))) arcs

@@ -6,13 +6,13 @@ use mathlib.Core.List.{List, [], _∷_, _++_}
 use lib.ListN.{length, take, getD}
 use lib.Dec.{ltb, eqb}
 use Rattle.words.specs.Pieces.{write}
-use Rattle.words.specs.Rows.{Row, weigh}
+use Rattle.words.specs.Rows.{Row, weigh, settle}
 use Rattle.request.specs.declared.Request.{Request}
 use Rattle.text.specs.Number.{anyOver}
 use Rattle.sheet.specs.declared.Writing.{Writing}
 use Rattle.sheet.specs.declared.Writing.the-variants.{Bytes, Refused}
 use Rattle.sheet.specs.Rendering.{sheetText}
-use Rattle.sheet.specs.Answer.{refusalSaid, told, unlessRefused}
+use Rattle.sheet.specs.Answer.{refusalSaid, told}
 
 -- "source, K, then p and q", of both ratios
 abbrev pub askNumbers : Request → List ℕ
@@ -71,4 +71,4 @@ writeSays r words room = told (weigh (writerRows r words room)) (length (written
 
 -- the lent sheet bytes afterwards: the sheet in front where it is written, and on a refusal as they came
 unfoldable pub sheetAfter : Request → List ℕ → List ℕ → List ℕ
-sheetAfter r words sheet = unlessRefused (weigh (writerRows r words (length sheet))) (write sheet 0 (written r words)) sheet
+sheetAfter r words sheet = settle (weigh (writerRows r words (length sheet))) (write sheet 0 (written r words)) sheet

@@ -56,7 +56,7 @@ pub by-tens : (P : ℕ → Type 0) → ((n : ℕ) → n < 10 → P n) → ((n : 
 by-tens P small more n = by-tens-within P small more n n (omega arith)
 
 -- one digit more at the end
-pub digits-snoc : (v x : ℕ) → 1 ≤ v → x < 10 → digits (v * 10 + x) ≡ digits v ++ ((48 + x) ∷ [])
+digits-snoc : (v x : ℕ) → 1 ≤ v → x < 10 → digits (v * 10 + x) ≡ digits v ++ ((48 + x) ∷ [])
 digits-snoc v x h l =
     let q : (v * 10 + x) / 10 ≡ v = omega arith in
     let r : (v * 10 + x) % 10 ≡ x = omega arith in
@@ -65,7 +65,7 @@ digits-snoc v x h l =
 -- ---- read after write
 
 -- one digit more is read
-pub step-on : (v i c : ℕ) (cs : List ℕ) → 48 ≤ c → c ≤ 57 → v ≤ 9999999
+step-on : (v i c : ℕ) (cs : List ℕ) → 48 ≤ c → c ≤ 57 → v ≤ 9999999
     → digitsAfter v i (c ∷ cs) ≡ digitsAfter (v * 10 + (c - 48)) (i + 1) cs
 unfolding digitsAfter
 step-on v i c cs l h m = rw (le-leb 48 c l, le-leb c 57 h, le-leb v 9999999 m)
@@ -88,7 +88,7 @@ reads-more n m ih t h =
     (step-on (n / 10) (length (digits (n / 10))) (48 + n % 10) t (omega arith) (omega arith) (omega arith) ∙ rw e)
 
 -- the digits of n, and then t, leave a reader at n with t to come
-pub read-digits : (n : ℕ) → Reads n
+read-digits : (n : ℕ) → Reads n
 read-digits = by-tens Reads reads-small reads-more
 
 -- but for 0, the digits of n do not begin with a 0
@@ -198,6 +198,10 @@ width-small n h = rw (digits-small n h)
 pub width-more : (n : ℕ) → 10 ≤ n → length (digits n) ≡ length (digits (n / 10)) + 1
 width-more n h = rw (digits-more n h, length-append)
 
+-- below 10 one digit
+pub width-one : (n : ℕ) → n < 10 → length (digits n) ≤ 1
+width-one n h = omega (arith, width-small n h)
+
 -- one digit more for a bound ten times as large
 pub width-within : (k b : ℕ) → ((n : ℕ) → n < b → length (digits n) ≤ k) → (n : ℕ) → n < b * 10 → length (digits n) ≤ suc k
 width-within k b h n l =
@@ -209,8 +213,5 @@ width-word n l =
     width-within 9 1000000000
     (width-within 8 100000000
     (width-within 7 10000000
-    (width-within 6 1000000 (width-within 5 100000 (width-within 4 10000 (width-within 3 1000 (width-within 2 100 (width-within 1 10 one))))))))
+    (width-within 6 1000000 (width-within 5 100000 (width-within 4 10000 (width-within 3 1000 (width-within 2 100 (width-within 1 10 width-one))))))))
     n (omega arith)
-  where
-    one : (n : ℕ) → n < 10 → length (digits n) ≤ 1
-    one n s = omega (arith, width-small n s)

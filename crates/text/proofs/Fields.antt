@@ -1,16 +1,15 @@
 -- Stretches of bytes up to a byte, and words in common: how each goes on at an index, and where it is the front of a list. Assumes nothing.
-use Prim.Native.Nat.{ℕ, zero, suc, _+_, _-_, _≤_, _<_}
+use Prim.Native.Nat.{ℕ, suc, _+_, _-_, _≤_, _<_}
 use mathlib.Core.Path.{_≡_, refl, ap, sym, _∙_}
 use mathlib.Core.List.{List, [], _∷_, _++_}
 use mathlib.Core.Bool.{Bool, true, false, cond}
 use mathlib.Core.Logic.{_⊎_, inl, inr}
 use native.Mathlib.Omega.{arith}
 use native.Mathlib.Numerals.{add-one}
-use lib.ListN.{length, getD, set, take, drop, drop-of-length-le, length-drop}
+use lib.ListN.{length, getD, take, drop, drop-of-length-le, length-drop}
 use lib.Seq.{drop-cons, take-suc, take-all, take-append-le}
 use lib.Dec.{ltb, eqb}
 use borrow.Author.Tests.{ltb-true, ltb-false, eq-eqb, ne-eqb, eqb-true}
-use Rattle.words.specs.Pieces.{write}
 use Rattle.text.specs.Field.{before, common}
 
 -- of two numbers the first is below the second, or not
@@ -34,23 +33,6 @@ take-next i s h = rw add-one (take-suc s i 0 h)
 -- the rest of a list, as the code's `&s[b..]` has it
 pub rest-is : (s : List ℕ) (b : ℕ) → take (length s - b) (drop b s) ≡ drop b s
 rest-is s b = take-all (length s - b) (drop b s) (simp length-drop (omega arith))
-
--- ---- short writes
-
--- a store of one byte
-pub set-write : (l : List ℕ) (i v : ℕ) → set l i v ≡ write l i (v ∷ [])
-unfolding write
-set-write [] i v = refl
-set-write (x ∷ []) zero v = refl
-set-write (x ∷ (y ∷ l)) zero v = refl
-set-write (x ∷ l) (suc i) v = ap (λ (r : List ℕ). x ∷ r) (set-write l i v)
-
--- a write of nothing
-pub write-none : (l : List ℕ) (at : ℕ) → write l at [] ≡ l
-unfolding write
-write-none [] at = refl
-write-none (x ∷ l) zero = refl
-write-none (x ∷ l) (suc at) = ap (λ (r : List ℕ). x ∷ r) (write-none l at)
 
 -- ---- the bytes before b
 

@@ -91,7 +91,7 @@ module _ (sep : ℕ) where
     pub small : v ≤ largest
 
   -- nothing of the item stands before the fault
-  pub item-none : (at j : ℕ) (r : List ℕ) → at ≡ j → ItemBegins at j r
+  item-none : (at j : ℕ) (r : List ℕ) → at ≡ j → ItemBegins at j r
   item-none at j r q =
       let m : j - at ≡ 0 = omega arith in
       record { v = 0; t = sep ∷ (48 ∷ []); so = rw (m, digits-small 0 (omega arith)); small = omega arith }

@@ -9,7 +9,7 @@ use lib.ListN.{length, getD, take, drop, set, drop-of-length-le}
 use lib.Seq.{take-suc-set, length-take-le}
 use borrow.Author.Tests.{lt-ltb, le-ltb, eq-eqb, ne-eqb}
 use Rattle.words.specs.Pieces.{write}
-use Rattle.words.proofs.Writes.{write-front, front-more}
+use Rattle.words.proofs.Writes.{write-front, front-more, write-none}
 use Rattle.text.specs.declared.Number.{Number}
 use Rattle.text.specs.declared.Item.the-variants.{Found, Wrong}
 use Rattle.text.specs.declared.Line.{Line}
@@ -17,7 +17,7 @@ use Rattle.text.specs.declared.Line.the-variants.{Good, Bad}
 use Rattle.text.specs.Field.{before, common}
 use Rattle.text.specs.Number.{number}
 use Rattle.text.specs.Line.{Got, good, bad, placed, item, prepend, numbers, lineOf, answerOf, takenOf}
-use Rattle.text.proofs.Fields.{drop-next, write-none}
+use Rattle.text.proofs.Fields.{drop-next}
 
 -- ---- one item, at byte `at`
 
@@ -33,7 +33,7 @@ module _ (sep at : ℕ) (line : List ℕ) where
   item-other h e = rw (drop-next at line h, ne-eqb (getD line at 0) sep e)
 
   -- sep stands there: what follows it decides
-  pub item-after : at < length line → getD line at 0 ≡ sep
+  item-after : at < length line → getD line at 0 ≡ sep
       → item sep at (drop at line) ≡ placed at (length (before sep (drop (at + 1) line))) (number (before sep (drop (at + 1) line)))
   unfolding item
   item-after h e = rw (drop-next at line h, eq-eqb (getD line at 0) sep e)
@@ -52,12 +52,12 @@ unfolding numbers
 numbers-more sep n line at v e h = rw h
 
 -- none is found: its fault is the line's
-pub numbers-wrong : (sep n : ℕ) (line : List ℕ) (at j : ℕ) → item sep at (drop at line) ≡ Wrong j → numbers sep (suc n) line at ≡ bad j []
+numbers-wrong : (sep n : ℕ) (line : List ℕ) (at j : ℕ) → item sep at (drop at line) ≡ Wrong j → numbers sep (suc n) line at ≡ bad j []
 unfolding numbers
 numbers-wrong sep n line at j h = rw h
 
 -- all are read, and the line goes on
-pub numbers-over : (sep : ℕ) (line : List ℕ) (at : ℕ) → at < length line → numbers sep 0 line at ≡ bad at []
+numbers-over : (sep : ℕ) (line : List ℕ) (at : ℕ) → at < length line → numbers sep 0 line at ≡ bad at []
 unfolding numbers
 numbers-over sep line at h = rw (lt-ltb at (length line) h)
 
@@ -156,7 +156,7 @@ module _ (sep : ℕ) (out₀ line : List ℕ) (from : ℕ) (out : List ℕ) (i a
 -- ---- the word in front of them
 
 -- the word is not there
-pub lineOf-short : (sep : ℕ) (w : List ℕ) (n : ℕ) (line : List ℕ) (c : ℕ) → c ≡ common w line → c < length w → lineOf sep w n line ≡ bad c []
+lineOf-short : (sep : ℕ) (w : List ℕ) (n : ℕ) (line : List ℕ) (c : ℕ) → c ≡ common w line → c < length w → lineOf sep w n line ≡ bad c []
 unfolding lineOf
 lineOf-short sep w n line c e h = rw (← e, lt-ltb c (length w) h)
 

@@ -6,16 +6,16 @@ use native.Mathlib.Omega.{arith}
 use lib.ListN.{length, getD, take, drop, set, length-append, take-append-drop}
 use lib.Seq.{length-take-le}
 use Rattle.words.specs.Pieces.{write}
-use Rattle.words.proofs.Writes.{write-append}
+use Rattle.words.proofs.Writes.{write-append, set-write, write-none}
 use Rattle.text.specs.Number.{digits}
 use Rattle.text.specs.Line.{parted, partedWidth, lineText}
-use Rattle.text.proofs.Fields.{take-next, set-write, write-none}
+use Rattle.text.proofs.Fields.{take-next}
 use Rattle.text.proofs.Digits.{digits-small, digits-more}
 
 -- ---- one byte
 
 -- one byte after what was written
-pub write-byte : (l ys : List ℕ) (at e v : ℕ) → e ≡ at + length ys → set (write l at ys) e v ≡ write l at (ys ++ (v ∷ []))
+write-byte : (l ys : List ℕ) (at e v : ℕ) → e ≡ at + length ys → set (write l at ys) e v ≡ write l at (ys ++ (v ∷ []))
 write-byte l ys at e v p = rw (p, set-write (write l at ys) (at + length ys) v) (write-append l at ys (v ∷ []))
 
 -- the next byte of w
@@ -39,7 +39,7 @@ put-more l m at e n h p q = rw (q, digits-more n h) (write-byte l (digits (n / 1
 
 module _ (sep : ℕ) where
   -- numbers one after another
-  pub parted-append : (xs ys : List ℕ) → parted sep (xs ++ ys) ≡ parted sep xs ++ parted sep ys
+  parted-append : (xs ys : List ℕ) → parted sep (xs ++ ys) ≡ parted sep xs ++ parted sep ys
   unfolding parted
   parted-append [] ys = refl
   parted-append (x ∷ xs) ys = ap (λ (l : List ℕ). sep ∷ l) (rw (parted-append xs ys) (sym (append-assoc (digits x) (parted sep xs) (parted sep ys))))
@@ -100,10 +100,14 @@ module _ (sep : ℕ) where
 -- ---- how many bytes numbers take
 
 -- the same whatever parts them
-pub parted-width : (sep : ℕ) (vs : List ℕ) → length (parted sep vs) ≡ partedWidth vs
+parted-width : (sep : ℕ) (vs : List ℕ) → length (parted sep vs) ≡ partedWidth vs
 unfolding parted partedWidth
 parted-width sep [] = refl
 parted-width sep (v ∷ vs) = ap suc (length-append (digits v) (parted sep vs) ∙ ap (λ (k : ℕ). length (digits v) + k) (parted-width sep vs)) ∙ omega arith
+
+-- so a line takes its word, its numbers and its LF
+pub line-width : (sep : ℕ) (w vs : List ℕ) → length (lineText sep w vs) ≡ length w + partedWidth vs + 1
+line-width sep w vs = line-length sep w vs ∙ ap (λ (k : ℕ). length w + k + 1) (parted-width sep vs)
 
 -- none of them
 pub width-none : (vs : List ℕ) → partedWidth (take 0 vs) ≡ 0

@@ -162,7 +162,7 @@ pub fn any_over(vs: &[u32]) -> bool
 }
 
 // How many digits n has.
-pub fn width(n: u32) -> usize
+fn width(n: u32) -> usize
     ensures { λ r. ⌜ r ≡ length (digits n) ⌝ }
 {
     let mut w = 1;
@@ -190,7 +190,7 @@ pub fn widths(vs: &[u32]) -> usize
 }
 
 // Writes the bytes of w from byte `at` on; the byte after them.
-pub fn put_bytes(out: &mut [u8], at: usize, w: &[u8]) -> usize
+fn put_bytes(out: &mut [u8], at: usize, w: &[u8]) -> usize
     requires { ⌜ at + length (now w) ≤ length (now out) ⌝ }
     ensures { λ r. ⌜ r ≡ at + length (now (w .entry)) ⌝ }
     ensures { λ r. ⌜ now (out .exit) ≡ write (now (out .entry)) at (now (w .entry)) ⌝ }
@@ -205,7 +205,7 @@ pub fn put_bytes(out: &mut [u8], at: usize, w: &[u8]) -> usize
 }
 
 // Writes the digits of n from byte `at` on, each straight to its place; the byte after them.
-pub fn put_number(out: &mut [u8], at: usize, n: u32) -> usize
+fn put_number(out: &mut [u8], at: usize, n: u32) -> usize
     requires { ⌜ at + length (digits n) ≤ length (now out) ⌝ }
     ensures { λ r. ⌜ r ≡ at + length (digits n) ⌝ }
     ensures { λ r. ⌜ now (out .exit) ≡ write (now (out .entry)) at (digits n) ⌝ }
@@ -220,7 +220,7 @@ pub fn put_number(out: &mut [u8], at: usize, n: u32) -> usize
 }
 
 // Writes the numbers, each after sep; the byte after them.
-pub fn put_numbers(out: &mut [u8], at: usize, sep: u8, vs: &[u32]) -> usize
+fn put_numbers(out: &mut [u8], at: usize, sep: u8, vs: &[u32]) -> usize
     requires { ⌜ at + length (parted sep (now vs)) ≤ length (now out) ⌝ }
     ensures { λ r. ⌜ r ≡ at + length (parted sep (now (vs .entry))) ⌝ }
     ensures { λ r. ⌜ now (out .exit) ≡ write (now (out .entry)) at (parted sep (now (vs .entry))) ⌝ }

@@ -1,6 +1,5 @@
 // Prints, one after another, what the lister prints for each sheet of standard input. A sheet stands after a line of four digits, its length.
 use libc::STDIN_FILENO;
-use libc::STDOUT_FILENO;
 ghost use Prim.Native.Nat.{_<_, _≤_};
 ghost use lib.ListN.{length};
 
@@ -26,20 +25,6 @@ fn fill(sheet: &mut [u8], n: usize)
     io::read_full(STDIN_FILENO, &mut sheet[0..n]);
 }
 
-// Writes the front of the text.
-fn emit(text: &[u8], n: usize)
-    requires { ⌜ n ≤ length (now text) ⌝ }
-{
-    io::write_all(STDOUT_FILENO, &text[0..n]);
-}
-
-// Prints for a sheet, from bytes that suffice for every listing.
-fn print(sheet: &[u8]) {
-    let mut text = [0u8; 53000];
-    let length = printout::print_out(sheet, &mut text);
-    emit(&text, length);
-}
-
 // One sheet; false at the end of the input.
 fn next() -> bool {
     let mut line = [0u8; 5];
@@ -50,7 +35,7 @@ fn next() -> bool {
     let n = length_of(line);
     let mut sheet = [0u8; 10000];
     fill(&mut sheet, n);
-    print(&sheet[0..n]);
+    printer::print(&sheet[0..n]);
     true
 }
 

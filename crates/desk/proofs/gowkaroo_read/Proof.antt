@@ -51,7 +51,9 @@ returns-2 c =
     let a = c .before .before .before .before .before .before .before .before .before .before .before .before .before .args in
     let r = c .before .before .before .before .before .before .before .before .before .read .ensures in
     let o = c .before .before .before .before .before .outcome2 .given .1 in
-    (c .pack .ensures ∙ count-packed _ _ (read-says-count (a .sheet .now) (a .arcs .now) (a .request .now) _ (r .0) _ o), (c .before .put-request .ensures ∙ ap requestWords (r .1 .0) ∙ request-filled (a .sheet .now) (a .arcs .now) (a .request .now) _ (r .0) _ o, r .1 .1))
+    let count = read-says-count (a .sheet .now) (a .arcs .now) (a .request .now) _ (r .0) _ o in
+    let filled = request-filled (a .sheet .now) (a .arcs .now) (a .request .now) _ (r .0) _ o in
+    (c .pack .ensures ∙ count-packed _ _ count, (c .before .put-request .ensures ∙ ap requestWords (r .1 .0) ∙ filled, r .1 .1))
 
 pub gowkaroo-read-spec : {M : Type 1} → statement M
 gowkaroo-read-spec =

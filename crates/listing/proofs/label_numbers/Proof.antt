@@ -11,9 +11,10 @@ use Rattle.request.specs.Request.{Req, asked, reach}
 use Rattle.rounds.specs.Label.{costs}
 use Rattle.route.specs.Chain.{chain}
 use Rattle.route.specs.Answer.{arcsOf}
+use Rattle.route.proofs.Sound.{chain-short}
 use Rattle.listing.specs.Listing.{lastLabel, lastRoute, labelNumbers}
 use Rattle.listing.specs.Print.{countOf}
-use Rattle.listing.proofs.Chains.{count-is, chain-short}
+use Rattle.listing.proofs.Chains.{count-is}
 use Rattle.listing.proofs.Numbers as numbers
 use Rattle.listing.proofs.Places.{place-asks, place-small, place-end, costs-part, costs-long}
 use Rattle.listing.proofs.label_numbers.Statement.{statement}
@@ -25,7 +26,8 @@ unfolding labelNumbers lastRoute
 count-numbers R W v c d n e f = omega (arith, length-append (costs R (lastLabel R W v c)) (length (arcsOf (chain R W (R .hops) v c)) ∷ arcsOf (chain R W (R .hops) v c)))
 
 -- and what they are
-numbers-are : (R : Req) (W xs ys : List ℕ) (v c : ℕ) → ys ≡ write xs 0 (v ∷ costs R (lastLabel R W v c) ++ length (arcsOf (chain R W (R .hops) v c)) ∷ arcsOf (chain R W (R .hops) v c)) → ys ≡ write xs 0 (labelNumbers R W v c)
+numbers-are : (R : Req) (W xs ys : List ℕ) (v c : ℕ)
+    → ys ≡ write xs 0 (v ∷ costs R (lastLabel R W v c) ++ length (arcsOf (chain R W (R .hops) v c)) ∷ arcsOf (chain R W (R .hops) v c)) → ys ≡ write xs 0 (labelNumbers R W v c)
 unfolding labelNumbers lastRoute
 numbers-are R W xs ys v c e = e
 
@@ -89,12 +91,22 @@ module _ (c : tie.After-follow) where
   few : length arcs-of ≤ 63
   few = omega (arith, chain-short (R-of copied) (W-of copied) (R-of copied .hops) (start-of copied .args .node) (start-of copied .args .cell), start-of copied .pre .0 .small .hops-few)
 
-  -- the words are as many as before
-  long-still : length (numbers.with-arcs (start-of copied .args .numbers .now) (start-of copied .args .node) (start-of copied .args .request .criteria) (costs-of copied) (start-of copied .pre .1 .2) (start-of copied .pre .0 .small .three) (size copied) arcs-of (c .follow .last .1 .1 .1 .1 .1 .1 .1 .0) few (c .follow .ensures .1)) ≡ 68
-  long-still = numbers.arcs-long (start-of copied .args .numbers .now) (start-of copied .args .node) (start-of copied .args .request .criteria) (costs-of copied) (start-of copied .pre .1 .2) (start-of copied .pre .0 .small .three) (size copied) arcs-of (c .follow .last .1 .1 .1 .1 .1 .1 .1 .0) few (c .follow .ensures .1)
+  -- the words once the arcs are stored
+  abbrev words-of : List ℕ
+  words-of =
+      let s = start-of copied in
+      let a = s .args in
+      numbers.with-arcs (a .numbers .now) (a .node) (a .request .criteria) (costs-of copied) (s .pre .1 .2) (s .pre .0 .small .three) (size copied) arcs-of (c .follow .last .1 .1 .1 .1 .1 .1 .1 .0) few (c .follow .ensures .1)
+
+  -- are as many as before
+  long-still : length words-of ≡ 68
+  long-still =
+      let s = start-of copied in
+      let a = s .args in
+      numbers.arcs-long (a .numbers .now) (a .node) (a .request .criteria) (costs-of copied) (s .pre .1 .2) (s .pre .0 .small .three) (size copied) arcs-of (c .follow .last .1 .1 .1 .1 .1 .1 .1 .0) few (c .follow .ensures .1)
 
   -- and still are once the count is stored
-  long-set : (n : ℕ) → length (set (numbers.with-arcs (start-of copied .args .numbers .now) (start-of copied .args .node) (start-of copied .args .request .criteria) (costs-of copied) (start-of copied .pre .1 .2) (start-of copied .pre .0 .small .three) (size copied) arcs-of (c .follow .last .1 .1 .1 .1 .1 .1 .1 .0) few (c .follow .ensures .1)) (start-of copied .args .request .criteria + 1) n) ≡ length (start-of copied .args .numbers .now)
+  long-set : (n : ℕ) → length (set words-of (start-of copied .args .request .criteria + 1) n) ≡ length (start-of copied .args .numbers .now)
   long-set n = simp length-set (long-still ∙ sym (start-of copied .pre .1 .2))
 
 cast-d : tie.Need-cast-d
@@ -202,8 +214,37 @@ returns c =
     let n : c .arc-count .result ≡ length (arcs-of f) = c .arc-count .ensures ∙ ap countOf (f .follow .ensures .0) ∙ count-is (chain (R-of k) (W-of k) (R-of k .hops) (a .node) (a .cell)) in (
       count-numbers (R-of k) (W-of k) (a .node) (a .cell) (a .request .criteria) (c .arc-count .result) (cost-count k) n,
       numbers-are (R-of k) (W-of k) (a .numbers .now) _ (a .node) (a .cell)
-          (numbers.numbers-law (a .numbers .now) (a .node) (a .request .criteria) (costs-of k) (s .pre .1 .2) (s .pre .0 .small .three) (size k) (arcs-of f) (f .follow .last .1 .1 .1 .1 .1 .1 .1 .0) (few f) (f .follow .ensures .1) _ (c .arc-count .result) (stored k) n),
+          (numbers.numbers-law (a .numbers .now) (a .node) (a .request .criteria) (costs-of k) (s .pre .1 .2) (s .pre .0 .small .three) (size k)
+          (arcs-of f) (f .follow .last .1 .1 .1 .1 .1 .1 .1 .0) (few f) (f .follow .ensures .1) _ (c .arc-count .result) (stored k) n),
     )
 
 pub label-numbers-spec : {M : Type 1} → statement M
-label-numbers-spec = tie.close (tie.spec cast-d label-at-requires add-end add-count add-first slice-write-numbers sub-copy part-copy-start part-copy-end mul-copy sub-copy-2 part-copy-start-2 part-copy-end-2 copy-requires mul-follow sub-follow part-follow-start part-follow-end follow-requires arc-count-requires mul-numbers slice-write-numbers-2 cast-result add-result same-length returns)
+label-numbers-spec =
+    tie.close
+    (tie.spec
+    cast-d
+    label-at-requires
+    add-end
+    add-count
+    add-first
+    slice-write-numbers
+    sub-copy
+    part-copy-start
+    part-copy-end
+    mul-copy
+    sub-copy-2
+    part-copy-start-2
+    part-copy-end-2
+    copy-requires
+    mul-follow
+    sub-follow
+    part-follow-start
+    part-follow-end
+    follow-requires
+    arc-count-requires
+    mul-numbers
+    slice-write-numbers-2
+    cast-result
+    add-result
+    same-length
+    returns)

@@ -8,11 +8,11 @@ use lib.ListN.{length}
 use borrow.Author.Needs.{needs}
 use Rattle.words.specs.Pieces.{write}
 use Rattle.text.specs.Line.{lineText}
+use Rattle.text.proofs.Puts.{line-width}
 use Rattle.request.specs.Request.{Req, asked}
 use Rattle.sheet.specs.Grammar.{tab}
 use Rattle.listing.specs.declared.Printed.the-variants as printed
 use Rattle.listing.specs.Listing.{coverWord, coverLine, listingText}
-use Rattle.listing.proofs.Lines.{line-wide}
 use Rattle.listing.proofs.Prints.{prints-longer, prints-text, listing-length, listing-put}
 use Rattle.listing.proofs.print.Statement.{statement}
 use Rattle.listing.proofs.print.Tie as tie
@@ -41,7 +41,7 @@ module _ (c : tie.After-widths) where
 
   -- the length of its line
   cover-long : 6 + c .widths .result ≡ length (coverLine R-of W-of (start-of .args .tries))
-  cover-long = omega (arith, c .widths .ensures .0, line-wide coverWord (count-of ∷ start-of .args .tries ∷ []), ap length cover-is)
+  cover-long = omega (arith, c .widths .ensures .0, line-width tab coverWord (count-of ∷ start-of .args .tries ∷ []), ap length cover-is)
 
   -- and with the labels, of the whole listing
   long : 6 + c .widths .result + c .before .before .measure-lines .result .bytes ≡ length listing-of

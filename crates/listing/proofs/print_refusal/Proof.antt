@@ -5,9 +5,10 @@ use mathlib.Core.List.{List, [], _∷_}
 use native.Mathlib.Omega.{arith}
 use lib.ListN.{length}
 use borrow.Author.Needs.{needs}
+use Rattle.text.proofs.Puts.{line-width}
+use Rattle.sheet.specs.Grammar.{tab}
 use Rattle.listing.specs.declared.Printed.the-variants as printed
 use Rattle.listing.specs.Listing.{refusedWord, refusalLine}
-use Rattle.listing.proofs.Lines.{line-wide}
 use Rattle.listing.proofs.Prints.{prints-longer, prints-text}
 use Rattle.listing.proofs.print_refusal.Statement.{statement}
 use Rattle.listing.proofs.print_refusal.Tie as tie
@@ -23,7 +24,7 @@ module _ (c : tie.After-widths) where
   -- the word, the numbers and the LF
   long : 8 + c .widths .result ≡ length line-of
   unfolding refusalLine
-  long = let r = start-of .args .refusal in omega (arith, c .widths .ensures .0, line-wide refusedWord (r .number ∷ r .place ∷ []))
+  long = let r = start-of .args .refusal in omega (arith, c .widths .ensures .0, line-width tab refusedWord (r .number ∷ r .place ∷ []))
 
 slice-aggregate-widths : tie.Need-slice-aggregate-widths
 slice-aggregate-widths c = search needs

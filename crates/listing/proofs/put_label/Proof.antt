@@ -1,18 +1,18 @@
 -- `put_label`: nothing for an empty label, the line of a filled one. Assumes nothing.
-use Prim.Native.Nat.{ℕ, _+_, _≤_}
+use Prim.Native.Nat.{ℕ, _+_}
 use mathlib.Core.Path.{_≡_, sym, ap, _∙_}
 use mathlib.Core.List.{List}
 use native.Mathlib.Omega.{arith}
-use lib.ListN.{length, take, replicate, length-replicate}
+use lib.ListN.{length, take, length-replicate}
 use borrow.Author.Needs.{needs}
 use Rattle.words.specs.Pieces.{write}
-use Rattle.words.proofs.Writes.{length-write}
+use Rattle.words.proofs.Writes.{write-none}
+use Rattle.words.proofs.Choices.{not-true, not-false}
 use Rattle.text.specs.Line.{lineText}
 use Rattle.request.specs.Request.{asked}
 use Rattle.sheet.specs.Grammar.{tab}
 use Rattle.listing.specs.Listing.{labelWord, labelNumbers, labelLine}
-use Rattle.text.proofs.Fields.{write-none}
-use Rattle.listing.proofs.Lines.{not-true, not-false, empty-label, filled-label, few-numbers, numbers-front}
+use Rattle.listing.proofs.Lines.{empty-label, filled-label, Stored, numbers-stored}
 use Rattle.listing.proofs.put_label.Statement.{statement}
 use Rattle.listing.proofs.put_label.Tie as tie
 
@@ -25,34 +25,21 @@ module _ (c : tie.After-label-numbers) where
   abbrev numbers-of : List ℕ
   numbers-of = labelNumbers (asked (start-of .args .request) (start-of .args .arcs .now)) (start-of .args .labels .now) (start-of .args .node) (start-of .args .cell)
 
-  -- at most 68
-  few : length numbers-of ≤ 68
-  few =
+  stored : Stored numbers-of (c .label-numbers .last .1 .1 .1 .1 .1 .1 .0) (c .label-numbers .result)
+  stored =
       let s = start-of in
       let a = s .args in
-      few-numbers (a .request) (a .arcs .now) (a .labels .now) (a .cells) (s .pre .0) (a .node) (a .cell) (s .pre .1 .0 .0) (s .pre .1 .0 .1)
-
-  -- the words that they were stored in
-  long : length (c .label-numbers .last .1 .1 .1 .1 .1 .1 .0) ≡ 68
-  long = ap length (c .label-numbers .ensures .1) ∙ length-write (replicate 68 0) 0 numbers-of ∙ length-replicate {A = ℕ} 68 0
-
-  -- the words in front of these are the numbers
-  front : take (c .label-numbers .result) (c .label-numbers .last .1 .1 .1 .1 .1 .1 .0) ≡ numbers-of
-  front =
-      let s = start-of in
-      let a = s .args in
-      numbers-front (a .request) (a .arcs .now) (a .labels .now) (a .cells) (s .pre .0) (a .node) (a .cell) (s .pre .1 .0 .0) (s .pre .1 .0 .1) (replicate 68 0) _ _ (length-replicate {A = ℕ} 68 0) (c .label-numbers .ensures .0) (c .label-numbers .ensures .1)
-
-  -- as many as were answered
-  count : c .label-numbers .result ≡ length (take (c .label-numbers .result) (c .label-numbers .last .1 .1 .1 .1 .1 .1 .0))
-  count = c .label-numbers .ensures .0 ∙ sym (ap length front)
+      numbers-stored (a .request) (a .arcs .now) (a .labels .now) (a .cells) (s .pre .0) (a .node) (a .cell) (s .pre .1 .0 .0) (s .pre .1 .0 .1) _ _ (c .label-numbers .ensures .0) (c .label-numbers .ensures .1)
 
   -- the line of these numbers is the label's
-  line : lineText tab labelWord (take (c .label-numbers .result) (c .label-numbers .last .1 .1 .1 .1 .1 .1 .0)) ≡ labelLine (asked (start-of .args .request) (start-of .args .arcs .now)) (start-of .args .labels .now) (start-of .args .node) (start-of .args .cell)
+  line : lineText tab labelWord (take (c .label-numbers .result) (c .label-numbers .last .1 .1 .1 .1 .1 .1 .0))
+      ≡ labelLine (asked (start-of .args .request) (start-of .args .arcs .now)) (start-of .args .labels .now) (start-of .args .node) (start-of .args .cell)
   line =
       let s = start-of in
       let a = s .args in
-      ap (lineText tab labelWord) front ∙ filled-label (asked (a .request) (a .arcs .now)) (a .labels .now) (a .node) (a .cell) (sym (c .before .before .before .is-filled .ensures) ∙ not-false (c .before .before .before .is-filled .result) (c .before .before .if1 .left)) .1
+      let f = c .before .before .before .is-filled in
+      let t = sym (f .ensures) ∙ not-false (f .result) (c .before .before .if1 .left) in
+      ap (lineText tab labelWord) (stored .front) ∙ filled-label (asked (a .request) (a .arcs .now)) (a .labels .now) (a .node) (a .cell) t .1
 
 is-filled-requires : tie.Need-is-filled-requires
 is-filled-requires c κs =
@@ -80,10 +67,10 @@ slice-aggregate-put-line : tie.Need-slice-aggregate-put-line
 slice-aggregate-put-line c = search needs
 
 array-share-prefix-numbers : tie.Need-array-share-prefix-numbers
-array-share-prefix-numbers c = let k = c .before .before .before in omega (arith, few k, long k, k .label-numbers .ensures .0)
+array-share-prefix-numbers c = let k = c .before .before .before in omega (arith, stored k, k .label-numbers .ensures .0)
 
 slice-aggregate-put-line-2 : tie.Need-slice-aggregate-put-line-2
-slice-aggregate-put-line-2 c = count (c .before .before .before .before)
+slice-aggregate-put-line-2 c = stored (c .before .before .before .before) .count
 
 put-line-requires : tie.Need-put-line-requires
 put-line-requires c κs =

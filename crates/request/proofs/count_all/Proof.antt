@@ -51,7 +51,8 @@ returns c =
     let a = c .before .before .before .before .before .before .before .before .args in
     let R = asked (a .q) (a .arcs .now) in
     let l = c .before .before .before .before .before .loop in (
-      ap said (c .refuse .ensures) ∙ sym (first-over R (l .counts) (l .j) (a .q .criteria - 1) (c .before .before .before .before .loop-test .taken) (l .inv .1) (sym (c .before .enum-told .given .1) ∙ c .before .before .before .count-buckets .ensures)),
+      ap said (c .refuse .ensures)
+          ∙ sym (first-over R (l .counts) (l .j) (a .q .criteria - 1) (c .before .before .before .before .loop-test .taken) (l .inv .1) (sym (c .before .enum-told .given .1) ∙ c .before .before .before .count-buckets .ensures)),
       λ q. absurd (not-clear (c .refuse .ensures) q),
     )
 

@@ -30,7 +30,8 @@ ratio-good : (q : Request) (arcs : List ℕ) → Regular (asked q arcs) → Smal
 unfolding ratioP ratioQ
 ratio-good q arcs ok small j l = (ok .ratio-in j l, small .ratio-order j l)
 
-answered : (q : Request) (arcs : List ℕ) (j x : ℕ) → q .hops * x ≡ top (asked q arcs) j → bucketsOf (getD (q .ratios) (j * 2) 0) (getD (q .ratios) (j * 2 + 1) 0) (q .hops * x) ≡ bucketsOf (ratioP (asked q arcs) j) (ratioQ (asked q arcs) j) (top (asked q arcs) j)
+answered : (q : Request) (arcs : List ℕ) (j x : ℕ) → q .hops * x ≡ top (asked q arcs) j
+    → bucketsOf (getD (q .ratios) (j * 2) 0) (getD (q .ratios) (j * 2 + 1) 0) (q .hops * x) ≡ bucketsOf (ratioP (asked q arcs) j) (ratioQ (asked q arcs) j) (top (asked q arcs) j)
 unfolding ratioP ratioQ
 answered q arcs j x e = ap (bucketsOf (getD (q .ratios) (j * 2) 0) (getD (q .ratios) (j * 2 + 1) 0)) e
 

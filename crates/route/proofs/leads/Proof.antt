@@ -1,16 +1,97 @@
--- `leads`: the first of the three tests that holds; c7 is what was known seven steps before. Assumes nothing.
+-- `leads`: the first of the three tests that holds. Assumes nothing.
 use Prim.Native.Nat.{ℕ, _-_}
-use mathlib.Core.Path.{ap, _∙_}
+use mathlib.Core.Path.{_≡_, sym, ap, _∙_}
+use mathlib.Core.Bool.{Bool, true, false, cond, not}
 use mathlib.Core.List.{List}
 use lib.ListN.{getD}
-use Rattle.request.specs.Request.{asked, arc, tail}
+use lib.Dec.{T}
+use Rattle.request.specs.Request.{Req, asked, arc, tail}
 use Rattle.rounds.specs.Label.{step, from}
-use Rattle.route.specs.Chain.{startHolds, keptHolds}
+use Rattle.route.specs.Chain.{labelIn, startHolds, keptHolds}
+use Rattle.route.specs.Links.{linkOf}
+use Rattle.route.specs.declared.Link.{Link}
+use Rattle.route.specs.declared.Link.the-variants as link
 use Rattle.route.proofs.Places.{within-before}
-use Rattle.route.proofs.Leading.{label-is, told, told-not, told-two, told-two-not, lead-ends, lead-none, lead-kept, lead-low, lead-came, lead-missed}
+use Rattle.route.proofs.Leading.{label-is, told, told-not, told-two, told-two-not, lead-ends, lead-none, lead-kept, lead-low, lead-arc}
 use borrow.Author.Needs.{needs}
 use Rattle.route.proofs.leads.Statement.{statement}
 use Rattle.route.proofs.leads.Tie as tie
+
+-- ---- what is known at each point
+
+-- the label, and whether it is a start
+module _ (c : tie.After-start-holds) where
+  abbrev start-of : tie.Start
+  start-of = c .before .before .before .before .before
+
+  abbrev R : Req
+  R = asked (start-of .args .q) (start-of .args .arcs .now)
+
+  abbrev W : List ℕ
+  W = start-of .args .labels .now
+
+  -- the label of the layer, node and cell that were asked for
+  abbrev own : List ℕ
+  own = labelIn R W (start-of .args .i) (start-of .args .v) (start-of .args .c)
+
+  own-is : c .before .label .result .now ≡ own
+  own-is = let a = start-of .args in label-is R W _ (a .cells) (a .i) (a .v) (a .c) (start-of .pre .1 .1) (c .before .label .ensures)
+
+  starts : c .start-holds .result ≡ true → T (startHolds R (start-of .args .i) own (start-of .args .v) (start-of .args .c))
+  starts t = let a = start-of .args in told (λ (z : List ℕ). startHolds R (a .i) z (a .v) (a .c)) t (c .start-holds .ensures (a .arcs .now)) own-is
+
+  no-start : c .start-holds .result ≡ false → T (not (startHolds R (start-of .args .i) own (start-of .args .v) (start-of .args .c)))
+  no-start t = let a = start-of .args in told-not (λ (z : List ℕ). startHolds R (a .i) z (a .v) (a .c)) t (c .start-holds .ensures (a .arcs .now)) own-is
+
+-- the label before it, and whether it was kept from there
+module _ (c : tie.After-kept-holds) where
+  abbrev begun : tie.After-start-holds
+  begun = c .before .before .before .before
+
+  abbrev old : List ℕ
+  old = let a = start-of begun .args in labelIn (R begun) (W begun) (a .i - 1) (a .v) (a .c)
+
+  old-is : c .before .label2 .result .now ≡ old
+  old-is = let a = start-of begun .args in label-is (R begun) (W begun) _ (a .cells) (a .i - 1) (a .v) (a .c) (start-of begun .pre .1 .1) (c .before .label2 .ensures)
+
+  was-no-start : T (not (startHolds (R begun) (start-of begun .args .i) (own begun) (start-of begun .args .v) (start-of begun .args .c)))
+  was-no-start = no-start begun (c .before .before .before .if1 .left)
+
+  keeps : c .kept-holds .result ≡ true → T (keptHolds (R begun) (start-of begun .args .i) (own begun) old)
+  keeps t = let a = start-of begun .args in told-two (keptHolds (R begun) (a .i)) t (c .kept-holds .ensures (a .arcs .now)) (own-is begun) old-is
+
+  no-kept : c .kept-holds .result ≡ false → T (not (keptHolds (R begun) (start-of begun .args .i) (own begun) old))
+  no-kept t = let a = start-of begun .args in told-two-not (keptHolds (R begun) (a .i)) t (c .kept-holds .ensures (a .arcs .now)) (own-is begun) old-is
+
+-- its arc, the label reached, and whether it came from there
+module _ (c : tie.After-arc-holds) where
+  abbrev passed : tie.After-kept-holds
+  passed = c .before .before .before .before .before .before .before .before
+
+  abbrev step-of : ℕ
+  step-of = c .before .before .before .before .before .before .word .result
+
+  abbrev tail-of : ℕ
+  tail-of = c .before .before .before .word2 .result
+
+  abbrev from-of : ℕ
+  from-of = c .before .before .word3 .result
+
+  -- the link that an answer of the last test makes
+  abbrev link-by : Bool → Link
+  link-by b = cond b (link.Came (step-of - 3) tail-of from-of) link.Fails
+
+  link-is : link-by (c .arc-holds .result) ≡ linkOf (R (begun passed)) (W (begun passed)) (start-of (begun passed) .args .i) (start-of (begun passed) .args .v) (start-of (begun passed) .args .c)
+  unfolding step from tail arc
+  link-is =
+      let b = begun passed in
+      let a = start-of b .args in
+      let w = c .before .before .before .before .before .before .word in
+      lead-arc (R b) (W b) (a .i) (a .v) (a .c) (was-no-start passed) (no-kept passed (c .before .before .before .before .before .before .before .if3 .left))
+      step-of tail-of from-of _ _ (own-is b) (w .ensures)
+      (c .before .before .before .word2 .ensures ∙ ap (λ (z : List ℕ). getD z 0 0) (c .before .before .before .before .piece .ensures))
+      (c .before .before .word3 .ensures)
+      (label-is (R b) (W b) _ (a .cells) (a .i - 1) tail-of from-of (start-of b .pre .1 .1) (c .before .label3 .ensures)) (c .arc-holds .ensures)
 
 cast-d : tie.Need-cast-d
 cast-d c = search needs
@@ -23,51 +104,31 @@ start-holds-requires c κs = search needs
 
 returns : tie.Need-returns
 returns c =
-    let c2 = c .before .before in
-    let c6 = c2 .before .before .before .before in
-    let a = c6 .args in
-    let R = asked (a .q) (a .arcs .now) in
-    let W = a .labels .now in
-    let e = c6 .pre .1 .1 in
-    lead-ends R W (a .i) (a .v) (a .c)
-    (told (λ (z : List ℕ). startHolds R (a .i) z (a .v) (a .c)) (c .if1 .taken) (c .before .start-holds .ensures (a .arcs .now)) (label-is R W _ (a .cells) (a .i) (a .v) (a .c) e (c2 .label .ensures)))
+    let b = c .before in
+    let a = start-of b .args in
+    lead-ends (R b) (W b) (a .i) (a .v) (a .c) (starts b (c .if1 .taken))
 
 returns-2 : tie.Need-returns-2
 returns-2 c =
-    let c2 = c .before .before in
-    let c3 = c2 .before in
-    let c7 = c3 .before .before .before .before in
-    let a = c7 .args in
-    let R = asked (a .q) (a .arcs .now) in
-    let W = a .labels .now in
-    let e = c7 .pre .1 .1 in
-    lead-none R W (a .i) (a .v) (a .c)
-    (told-not (λ (z : List ℕ). startHolds R (a .i) z (a .v) (a .c)) (c .before .if1 .left) (c2 .start-holds .ensures (a .arcs .now)) (label-is R W _ (a .cells) (a .i) (a .v) (a .c) e (c3 .label .ensures)))
-    (c .if2 .taken)
+    let b = c .before .before in
+    let a = start-of b .args in
+    lead-none (R b) (W b) (a .i) (a .v) (a .c) (no-start b (c .before .if1 .left)) (c .if2 .taken)
 
 sub-label : tie.Need-sub-label
 sub-label c = search needs
 
 label-requires-2 : tie.Need-label-requires-2
-label-requires-2 c κs = within-before (c .before .before .before .before .before .before .before .pre .1 .0)
+label-requires-2 c κs = within-before (start-of (c .before .before) .pre .1 .0)
 
 kept-holds-requires : tie.Need-kept-holds-requires
 kept-holds-requires c κs = search needs
 
 returns-3 : tie.Need-returns-3
 returns-3 c =
-    let c2 = c .before .before in
-    let c4 = c2 .before .before in
-    let c5 = c4 .before in
-    let c6 = c5 .before in
-    let c10 = c6 .before .before .before .before in
-    let a = c10 .args in
-    let R = asked (a .q) (a .arcs .now) in
-    let W = a .labels .now in
-    let e = c10 .pre .1 .1 in
-    lead-kept R W (a .i) (a .v) (a .c)
-    (told-not (λ (z : List ℕ). startHolds R (a .i) z (a .v) (a .c)) (c4 .if1 .left) (c5 .start-holds .ensures (a .arcs .now)) (label-is R W _ (a .cells) (a .i) (a .v) (a .c) e (c6 .label .ensures)))
-    (told-two (keptHolds R (a .i)) (c .if3 .taken) (c .before .kept-holds .ensures (a .arcs .now)) (label-is R W _ (a .cells) (a .i) (a .v) (a .c) e (c6 .label .ensures)) (label-is R W _ (a .cells) (a .i - 1) (a .v) (a .c) e (c2 .label2 .ensures)))
+    let k = c .before in
+    let b = begun k in
+    let a = start-of b .args in
+    lead-kept (R b) (W b) (a .i) (a .v) (a .c) (was-no-start k) (keeps k (c .if3 .taken))
 
 word-requires : tie.Need-word-requires
 word-requires c κs = search needs
@@ -75,21 +136,10 @@ word-requires c κs = search needs
 returns-4 : tie.Need-returns-4
 unfolding step
 returns-4 c =
-    let c2 = c .before .before in
-    let c3 = c2 .before in
-    let c4 = c3 .before in
-    let c6 = c4 .before .before in
-    let c7 = c6 .before in
-    let c8 = c7 .before in
-    let c12 = c8 .before .before .before .before in
-    let a = c12 .args in
-    let R = asked (a .q) (a .arcs .now) in
-    let W = a .labels .now in
-    let e = c12 .pre .1 .1 in
-    lead-low R W (a .i) (a .v) (a .c)
-    (told-not (λ (z : List ℕ). startHolds R (a .i) z (a .v) (a .c)) (c6 .if1 .left) (c7 .start-holds .ensures (a .arcs .now)) (label-is R W _ (a .cells) (a .i) (a .v) (a .c) e (c8 .label .ensures)))
-    (told-two-not (keptHolds R (a .i)) (c2 .if3 .left) (c3 .kept-holds .ensures (a .arcs .now)) (label-is R W _ (a .cells) (a .i) (a .v) (a .c) e (c8 .label .ensures)) (label-is R W _ (a .cells) (a .i - 1) (a .v) (a .c) e (c4 .label2 .ensures)))
-    (c .before .word .result) _ (label-is R W _ (a .cells) (a .i) (a .v) (a .c) e (c8 .label .ensures)) (c .before .word .ensures) (c .if4 .taken)
+    let k = c .before .before .before in
+    let b = begun k in
+    let a = start-of b .args in
+    lead-low (R b) (W b) (a .i) (a .v) (a .c) (was-no-start k) (no-kept k (c .before .before .if3 .left)) (c .before .word .result) _ (own-is b) (c .before .word .ensures) (c .if4 .taken)
 
 cast-piece : tie.Need-cast-piece
 cast-piece c = search needs
@@ -113,64 +163,18 @@ sub-label-2 : tie.Need-sub-label-2
 sub-label-2 c = search needs
 
 label-requires-3 : tie.Need-label-requires-3
-label-requires-3 c κs =
-    within-before (c .before .before .before .before .before .before .before .before .before .before .before .before .before .before .before .pre .1 .0)
+label-requires-3 c κs = within-before (start-of (c .before .before .before .before .before .before .before .before .before .before) .pre .1 .0)
 
 arc-holds-requires : tie.Need-arc-holds-requires
 arc-holds-requires c κs =
-    (c .before .before .before .before .before .before .before .before .before .before .before .before .before .before .before .before .pre .0, (c .before .before .before .before .before .before .before .before .before .before .before .before .before .before .before .before .pre .1 .0 .criteria-few, c .before .before .before .before .before .before .before .before .before .before .before .before .before .before .before .before .pre .1 .1))
+    let p = start-of (c .before .before .before .before .before .before .before .before .before .before .before) .pre in
+    (p .0, (p .1 .0 .criteria-few, p .1 .1))
 
 returns-5 : tie.Need-returns-5
-unfolding step from tail arc
-returns-5 c =
-    let c2 = c .before .before in
-    let c3 = c2 .before in
-    let c4 = c3 .before in
-    let c5 = c4 .before in
-    let c7 = c5 .before .before in
-    let c8 = c7 .before in
-    let c9 = c8 .before in
-    let c10 = c9 .before in
-    let c12 = c10 .before .before in
-    let c13 = c12 .before in
-    let c14 = c13 .before in
-    let c18 = c14 .before .before .before .before in
-    let a = c18 .args in
-    let R = asked (a .q) (a .arcs .now) in
-    let W = a .labels .now in
-    let e = c18 .pre .1 .1 in
-    lead-came R W (a .i) (a .v) (a .c)
-    (told-not (λ (z : List ℕ). startHolds R (a .i) z (a .v) (a .c)) (c12 .if1 .left) (c13 .start-holds .ensures (a .arcs .now)) (label-is R W _ (a .cells) (a .i) (a .v) (a .c) e (c14 .label .ensures)))
-    (told-two-not (keptHolds R (a .i)) (c8 .if3 .left) (c9 .kept-holds .ensures (a .arcs .now)) (label-is R W _ (a .cells) (a .i) (a .v) (a .c) e (c14 .label .ensures)) (label-is R W _ (a .cells) (a .i - 1) (a .v) (a .c) e (c10 .label2 .ensures)))
-    (c7 .word .result) (c4 .word2 .result) (c3 .word3 .result) _ _ (label-is R W _ (a .cells) (a .i) (a .v) (a .c) e (c14 .label .ensures)) (c7 .word .ensures)
-    (c4 .word2 .ensures ∙ ap (λ (z : List ℕ). getD z 0 0) (c5 .piece .ensures)) (c3 .word3 .ensures)
-    (label-is R W _ (a .cells) (a .i - 1) (c4 .word2 .result) (c3 .word3 .result) e (c2 .label3 .ensures)) (c .if5 .taken) (c .before .arc-holds .ensures)
+returns-5 c = ap (link-by (c .before)) (sym (c .if5 .taken)) ∙ link-is (c .before)
 
 returns-6 : tie.Need-returns-6
-unfolding step from tail arc
-returns-6 c =
-    let c2 = c .before .before in
-    let c3 = c2 .before in
-    let c4 = c3 .before in
-    let c5 = c4 .before in
-    let c7 = c5 .before .before in
-    let c8 = c7 .before in
-    let c9 = c8 .before in
-    let c10 = c9 .before in
-    let c12 = c10 .before .before in
-    let c13 = c12 .before in
-    let c14 = c13 .before in
-    let c18 = c14 .before .before .before .before in
-    let a = c18 .args in
-    let R = asked (a .q) (a .arcs .now) in
-    let W = a .labels .now in
-    let e = c18 .pre .1 .1 in
-    lead-missed R W (a .i) (a .v) (a .c)
-    (told-not (λ (z : List ℕ). startHolds R (a .i) z (a .v) (a .c)) (c12 .if1 .left) (c13 .start-holds .ensures (a .arcs .now)) (label-is R W _ (a .cells) (a .i) (a .v) (a .c) e (c14 .label .ensures)))
-    (told-two-not (keptHolds R (a .i)) (c8 .if3 .left) (c9 .kept-holds .ensures (a .arcs .now)) (label-is R W _ (a .cells) (a .i) (a .v) (a .c) e (c14 .label .ensures)) (label-is R W _ (a .cells) (a .i - 1) (a .v) (a .c) e (c10 .label2 .ensures)))
-    (c7 .word .result) (c4 .word2 .result) (c3 .word3 .result) _ _ (label-is R W _ (a .cells) (a .i) (a .v) (a .c) e (c14 .label .ensures)) (c7 .word .ensures)
-    (c4 .word2 .ensures ∙ ap (λ (z : List ℕ). getD z 0 0) (c5 .piece .ensures)) (c3 .word3 .ensures)
-    (label-is R W _ (a .cells) (a .i - 1) (c4 .word2 .result) (c3 .word3 .result) e (c2 .label3 .ensures)) (c .if5 .left) (c .before .arc-holds .ensures)
+returns-6 c = ap (link-by (c .before)) (sym (c .if5 .left)) ∙ link-is (c .before)
 
 pub leads-spec : {M : Type 1} → statement M
 leads-spec =

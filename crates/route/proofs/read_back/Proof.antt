@@ -35,14 +35,13 @@ returns c =
     let W = a .labels .now in
     let B = a .route .now in
     let w = refused-is R (c .before .before .checked .given .0 .0) (sym (c .before .before .checked .given .1) ∙ c .before .before .before .before .check .ensures) in
-    let r = refused-all R W B (a .layer) (a .node) (a .cell) _ _ (c .refuse .ensures .1) _ _ (refused-early R W (length B) (a .layer) (a .node) (a .cell) _ _ w) (λ z. let n = early-number R _ _ w in absurd (omega arith)) (c .refuse .ensures .0) in
-    (r .0, (r .1, r .2))
+    refused-all R W B (a .layer) (a .node) (a .cell) _ _ (c .refuse .ensures .1) _ _ (refused-early R W (length B) (a .layer) (a .node) (a .cell) _ _ w) (λ z. let n = early-number R _ _ w in absurd (omega arith)) (c .refuse .ensures .0)
 
 same-length : tie.Need-same-length
 same-length c = search needs
 
 returns-2 : tie.Need-returns-2
-returns-2 c = let x = c .before .before .read-shaped .ensures in (x .0, (x .1 .0, x .1 .1))
+returns-2 c = c .before .before .read-shaped .ensures
 
 pub read-back-spec : {M : Type 1} → statement M
 read-back-spec =

@@ -1,17 +1,86 @@
--- `read_shaped`: rows 13 to 16 one after another, and then the route; c7 is what was known seven steps before. Assumes nothing.
-use Prim.Native.Nat.{_-_}
-use mathlib.Core.Path.{sym, _∙_}
+-- `read_shaped`: rows 13 to 16 one after another, and then the route. Assumes nothing.
+use Prim.Native.Nat.{ℕ, _≤_}
+use mathlib.Core.Path.{_≡_, sym, ap, _∙_}
+use mathlib.Core.Bool.{true, false}
+use mathlib.Core.List.{List}
 use native.Mathlib.Omega.{arith}
 use lib.ListN.{length}
-use Rattle.request.specs.Request.{asked, reach}
+use Rattle.words.specs.Rows.{Weighed, refused, weigh}
+use Rattle.request.specs.Request.{Req, asked, reach}
+use Rattle.request.specs.Shape.{cells}
 use Rattle.request.proofs.Accepted.{accepted-regular, accepted-small, accepted-fits}
 use Rattle.rounds.specs.Label.{costs, step}
-use Rattle.route.specs.Chain.{labelIn, chain}
-use Rattle.route.proofs.Answering.{other, refused-all, empty-all, route-all}
-use Rattle.route.proofs.Reading.{was-broken, was-whole, broken-leaves, three-costs, cells-is, words-fit, within, at-labels, at-route, at-beyond, inside-layer, asked-label, at-empty, at-broken, at-whole}
+use Rattle.route.specs.Chain.{labelIn, Chain, chain}
+use Rattle.route.specs.Answer.{backRows}
+use Rattle.route.proofs.Leading.{label-is}
+use Rattle.route.proofs.Answering.{layer-asked, Placed, empty-cell, chain-broken, chain-whole, other, refused-all, empty-all, route-all}
+use Rattle.route.proofs.Reading.{was-broken, was-whole, broken-leaves, three-costs, cells-is, words-fit, within, at-labels, at-route, at-beyond, placed}
 use borrow.Author.Needs.{needs}
 use Rattle.route.proofs.read_shaped.Statement.{statement}
 use Rattle.route.proofs.read_shaped.Tie as tie
+
+-- ---- what is known at each point
+
+-- at the start: the request, the labels, the lent buffer, the rows weighed
+module _ (s : tie.Start) where
+  abbrev R : Req
+  R = asked (s .args .request) (s .args .arcs .now)
+
+  abbrev W : List ℕ
+  W = s .args .labels .now
+
+  abbrev B : List ℕ
+  B = s .args .route .now
+
+  abbrev weighed : Weighed
+  weighed = weigh (backRows R W (length B) (s .args .layer) (s .args .node) (s .args .cell))
+
+  abbrev chain-of : Chain
+  chain-of = chain R W (s .args .layer) (s .args .node) (s .args .cell)
+
+-- once it is known whether there are such a layer, node and cell
+module _ (c : tie.After-beyond) where
+  abbrev start-of : tie.Start
+  start-of = c .before .before .before .before .before .before .before .before .before
+
+  beyond-refused : c .beyond .result ≡ true → weighed start-of ≡ refused 14 0
+  beyond-refused t =
+      let s = start-of in
+      let a = s .args in
+      at-beyond (a .request) (a .arcs .now) (s .pre .0) (a .shape) (s .pre .1) (W s) (length (B s)) (a .layer) (a .node) (a .cell)
+      (c .before .before .before .if1 .left) (c .before .if2 .left) _ (c .beyond .ensures) t
+
+  is-placed : c .beyond .result ≡ false → Placed (R start-of) (W start-of) (length (B start-of)) (start-of .args .layer) (start-of .args .node) (start-of .args .cell)
+  is-placed f =
+      let s = start-of in
+      let a = s .args in
+      placed (a .request) (a .arcs .now) (s .pre .0) (a .shape) (s .pre .1) (W s) (length (B s)) (a .layer) (a .node) (a .cell)
+      (c .before .before .before .if1 .left) (c .before .if2 .left) _ (c .beyond .ensures) f
+
+  layer-in : c .beyond .result ≡ false → start-of .args .layer ≤ start-of .args .request .hops
+  layer-in f = let a = start-of .args in layer-asked (a .request .hops) (a .request .nodes) (cells (R start-of)) (a .layer) (a .node) (a .cell) (is-placed f .inside)
+
+-- once the label's step is read: the label is the one that was asked for
+module _ (c : tie.After-word) where
+  abbrev found : tie.After-beyond
+  found = c .before .before .before
+
+  abbrev start : tie.Start
+  start = start-of found
+
+  is-there : Placed (R start) (W start) (length (B start)) (start .args .layer) (start .args .node) (start .args .cell)
+  is-there = is-placed found (c .before .before .if3 .left)
+
+  own-label : c .before .label .result .now ≡ labelIn (R start) (W start) (start .args .layer) (start .args .node) (start .args .cell)
+  own-label =
+      let a = start .args in
+      label-is (R start) (W start) _ (a .shape .cells) (a .layer) (a .node) (a .cell) (cells-is (a .request) (a .arcs .now) (start .pre .0) (a .shape) (start .pre .1)) (c .before .label .ensures)
+
+  own-step : c .word .result ≡ step (R start) (labelIn (R start) (W start) (start .args .layer) (start .args .node) (start .args .cell))
+  unfolding step
+  own-step = c .word .ensures ∙ ap (step (R start)) own-label
+
+-- ---- the needs
 
 cast-d : tie.Need-cast-d
 cast-d c = search needs
@@ -25,12 +94,7 @@ add-words c = search needs
 mul-words : tie.Need-mul-words
 mul-words c =
     let s = c .before .before .before .before .before in
-    let a = s .args in
-    let R = asked (a .request) (a .arcs .now) in
-    let W = a .labels .now in
-    let B = a .route .now in
-    let f = words-fit (a .request) (a .arcs .now) (s .pre .0) (a .shape) (s .pre .1) in
-    omega arith
+    omega (arith, words-fit (s .args .request) (s .args .arcs .now) (s .pre .0) (s .args .shape) (s .pre .1))
 
 refuse-requires : tie.Need-refuse-requires
 refuse-requires c κs = search needs
@@ -39,13 +103,8 @@ returns : tie.Need-returns
 returns c =
     let s = c .before .before .before .before .before .before .before in
     let a = s .args in
-    let R = asked (a .request) (a .arcs .now) in
-    let W = a .labels .now in
-    let B = a .route .now in
-    let w = at-labels (a .request) (a .arcs .now) (s .pre .0) (a .shape) (s .pre .1) W (length B) (a .layer) (a .node) (a .cell)
-    (c .before .if1 .taken) in
-    let r = refused-all R W B (a .layer) (a .node) (a .cell) _ _ (c .refuse .ensures .1) 13 1 w (other tt) (c .refuse .ensures .0) in
-    (r .0, (r .1, r .2))
+    let w = at-labels (a .request) (a .arcs .now) (s .pre .0) (a .shape) (s .pre .1) (W s) (length (B s)) (a .layer) (a .node) (a .cell) (c .before .if1 .taken) in
+    refused-all (R s) (W s) (B s) (a .layer) (a .node) (a .cell) _ _ (c .refuse .ensures .1) 13 1 w (other tt) (c .refuse .ensures .0)
 
 cast-if2 : tie.Need-cast-if2
 cast-if2 c = search needs
@@ -55,16 +114,11 @@ refuse-requires-2 c κs = search needs
 
 returns-2 : tie.Need-returns-2
 returns-2 c =
-    let c3 = c .before .before .before in
-    let s = c3 .before .before .before .before .before .before in
+    let s = c .before .before .before .before .before .before .before .before .before in
     let a = s .args in
-    let R = asked (a .request) (a .arcs .now) in
-    let W = a .labels .now in
-    let B = a .route .now in
-    let w = at-route (a .request) (a .arcs .now) (s .pre .0) (a .shape) (s .pre .1) W (length B) (a .layer) (a .node) (a .cell)
-    (c3 .if1 .left) (c .before .if2 .taken) in
-    let r = refused-all R W B (a .layer) (a .node) (a .cell) _ _ (c .refuse2 .ensures .1) 13 2 w (other tt) (c .refuse2 .ensures .0) in
-    (r .0, (r .1, r .2))
+    let w = at-route (a .request) (a .arcs .now) (s .pre .0) (a .shape) (s .pre .1) (W s) (length (B s)) (a .layer) (a .node) (a .cell)
+    (c .before .before .before .if1 .left) (c .before .if2 .taken) in
+    refused-all (R s) (W s) (B s) (a .layer) (a .node) (a .cell) _ _ (c .refuse2 .ensures .1) 13 2 w (other tt) (c .refuse2 .ensures .0)
 
 beyond-requires : tie.Need-beyond-requires
 beyond-requires c κs = search needs
@@ -74,30 +128,16 @@ refuse-requires-3 c κs = search needs
 
 returns-3 : tie.Need-returns-3
 returns-3 c =
-    let c2 = c .before .before in
-    let c3 = c2 .before in
-    let c5 = c3 .before .before in
-    let s = c5 .before .before .before .before .before .before in
+    let p = c .before .before in
+    let s = start-of p in
     let a = s .args in
-    let R = asked (a .request) (a .arcs .now) in
-    let W = a .labels .now in
-    let B = a .route .now in
-    let w = at-beyond (a .request) (a .arcs .now) (s .pre .0) (a .shape) (s .pre .1) W (length B) (a .layer) (a .node) (a .cell)
-    (c5 .if1 .left) (c3 .if2 .left) _ (c2 .beyond .ensures) (c .before .if3 .taken) in
-    let r = refused-all R W B (a .layer) (a .node) (a .cell) _ _ (c .refuse3 .ensures .1) 14 0 w (other tt) (c .refuse3 .ensures .0) in
-    (r .0, (r .1, r .2))
+    refused-all (R s) (W s) (B s) (a .layer) (a .node) (a .cell) _ _ (c .refuse3 .ensures .1) 14 0 (beyond-refused p (c .before .if3 .taken)) (other tt) (c .refuse3 .ensures .0)
 
 label-requires : tie.Need-label-requires
 label-requires c κs =
-    let c2 = c .before .before in
-    let c4 = c2 .before .before in
-    let s = c4 .before .before .before .before .before .before in
-    let a = s .args in
-    let R = asked (a .request) (a .arcs .now) in
-    let W = a .labels .now in
-    let B = a .route .now in
-    within (a .request) (a .arcs .now) (s .pre .0) (a .shape) (s .pre .1) (a .layer)
-    (inside-layer (a .request) (a .arcs .now) (s .pre .0) (a .shape) (s .pre .1) W (length B) (a .layer) (a .node) (a .cell) (c4 .if1 .left) (c2 .if2 .left) _ (c .before .beyond .ensures) (c .if3 .left))
+    let p = c .before in
+    let s = start-of p in
+    within (s .args .request) (s .args .arcs .now) (s .pre .0) (s .args .shape) (s .pre .1) (s .args .layer) (layer-in p (c .if3 .left))
 
 word-requires : tie.Need-word-requires
 word-requires c κs = search needs
@@ -106,23 +146,12 @@ no-route-requires : tie.Need-no-route-requires
 no-route-requires c κs = search needs
 
 returns-4 : tie.Need-returns-4
-unfolding step
 returns-4 c =
-    let c2 = c .before .before in
-    let c3 = c2 .before in
-    let c4 = c3 .before in
-    let c5 = c4 .before in
-    let c6 = c5 .before in
-    let c8 = c6 .before .before in
-    let s = c8 .before .before .before .before .before .before in
+    let k = c .before .before in
+    let s = start k in
     let a = s .args in
-    let R = asked (a .request) (a .arcs .now) in
-    let W = a .labels .now in
-    let B = a .route .now in
-    let w = at-empty (a .request) (a .arcs .now) (s .pre .0) (a .shape) (s .pre .1) W (length B) (a .layer) (a .node) (a .cell)
-    (c8 .if1 .left) (c6 .if2 .left) _ (c5 .beyond .ensures) (c4 .if3 .left) _ (c3 .label .ensures) (c2 .word .result) (c2 .word .ensures) (c .before .if4 .taken) in
-    let r = empty-all R W B (a .layer) (a .node) (a .cell) _ _ (c .no-route .ensures .1) w (c .no-route .ensures .0) in
-    (r .0, (r .1, r .2))
+    let w = empty-cell (R s) (W s) (length (B s)) (a .layer) (a .node) (a .cell) (is-there k) (sym (own-step k) ∙ c .before .if4 .taken) in
+    empty-all (R s) (W s) (B s) (a .layer) (a .node) (a .cell) _ _ (c .no-route .ensures .1) w (c .no-route .ensures .0)
 
 cost-requires : tie.Need-cost-requires
 cost-requires c κs = search needs
@@ -136,18 +165,11 @@ cost-requires-3 c κs = search needs
 follow-requires : tie.Need-follow-requires
 unfolding reach
 follow-requires c κs =
-    let c7 = c .before .before .before .before .before .before .before in
-    let c8 = c7 .before in
-    let c9 = c8 .before in
-    let c11 = c9 .before .before in
-    let s = c11 .before .before .before .before .before .before in
-    let a = s .args in
-    let R = asked (a .request) (a .arcs .now) in
-    let W = a .labels .now in
-    let B = a .route .now in
-    let i = inside-layer (a .request) (a .arcs .now) (s .pre .0) (a .shape) (s .pre .1) W (length B) (a .layer) (a .node) (a .cell) (c11 .if1 .left) (c9 .if2 .left) _ (c8 .beyond .ensures) (c7 .if3 .left) in
-    let n = cells-is (a .request) (a .arcs .now) (s .pre .0) (a .shape) (s .pre .1) in
-    (accepted-regular R (s .pre .0), (accepted-small R (s .pre .0), (accepted-fits R (s .pre .0), (n, i, c9 .if2 .left))))
+    let p = c .before .before .before .before .before .before .before .before in
+    let s = start-of p in
+    let n = cells-is (s .args .request) (s .args .arcs .now) (s .pre .0) (s .args .shape) (s .pre .1) in
+    let i = layer-in p (c .before .before .before .before .before .before .before .if3 .left) in
+    (accepted-regular (R s) (s .pre .0), (accepted-small (R s) (s .pre .0), (accepted-fits (R s) (s .pre .0), (n, i, p .before .if2 .left))))
 
 enum-known-trail : tie.Need-enum-known-trail
 enum-known-trail c = search needs
@@ -162,60 +184,33 @@ same-length : tie.Need-same-length
 same-length c = search needs
 
 returns-5 : tie.Need-returns-5
-unfolding step
 returns-5 c =
-    let c2 = c .before .before in
-    let c6 = c2 .before .before .before .before in
-    let c11 = c6 .before .before .before .before .before in
-    let c12 = c11 .before in
-    let c13 = c12 .before in
-    let c14 = c13 .before in
-    let c15 = c14 .before in
-    let c16 = c15 .before in
-    let c18 = c16 .before .before in
-    let s = c18 .before .before .before .before .before .before in
+    let f = c .before .before .before .before .before .before in
+    let i = f .before .before .before .before .before in
+    let k = i .before in
+    let s = start k in
     let a = s .args in
-    let R = asked (a .request) (a .arcs .now) in
-    let W = a .labels .now in
-    let B = a .route .now in
-    let h = sym (c2 .trail .given .1) ∙ c6 .follow .ensures .0 in
-    let w = at-broken (a .request) (a .arcs .now) (s .pre .0) (a .shape) (s .pre .1) W (length B) (a .layer) (a .node) (a .cell)
-    (c18 .if1 .left) (c16 .if2 .left) _ (c15 .beyond .ensures) (c14 .if3 .left) _ (c13 .label .ensures) (c12 .word .result) (c12 .word .ensures) (c11 .if4 .left) _ h in
-    let r = refused-all R W B (a .layer) (a .node) (a .cell) _ _ (c .refuse4 .ensures .1) 16 _ w (other tt) (c .refuse4 .ensures .0) in
-    let ch = chain R W (a .layer) (a .node) (a .cell) in
-    (r .0, (r .1, broken-leaves B _ ch _ (c6 .follow .ensures .1) (was-broken ch _ h) ∙ r .2))
+    let b = was-broken (chain-of s) _ (sym (c .before .before .trail .given .1) ∙ f .follow .ensures .0) in
+    let w = chain-broken (R s) (W s) (length (B s)) (a .layer) (a .node) (a .cell) (is-there k) (λ z. i .if4 .left (own-step k ∙ z)) _ b in
+    let r = refused-all (R s) (W s) (B s) (a .layer) (a .node) (a .cell) _ _ (c .refuse4 .ensures .1) 16 _ w (other tt) (c .refuse4 .ensures .0) in
+    (r .0, (r .1 .0, broken-leaves (B s) _ (chain-of s) _ (f .follow .ensures .1) b ∙ r .1 .1))
 
 same-length-2 : tie.Need-same-length-2
 same-length-2 c = search needs
 
 returns-6 : tie.Need-returns-6
-unfolding step costs
+unfolding costs
 returns-6 c =
-    let c5 = c .before .before .before .before .before in
-    let c7 = c5 .before .before in
-    let c8 = c7 .before in
-    let c9 = c8 .before in
-    let c10 = c9 .before in
-    let c11 = c10 .before in
-    let c12 = c11 .before in
-    let c13 = c12 .before in
-    let c14 = c13 .before in
-    let c15 = c14 .before in
-    let c17 = c15 .before .before in
-    let s = c17 .before .before .before .before .before .before in
+    let f = c .before .before .before .before .before in
+    let g = f .before .before in
+    let i = g .before .before .before in
+    let k = i .before in
+    let s = start k in
     let a = s .args in
-    let R = asked (a .request) (a .arcs .now) in
-    let W = a .labels .now in
-    let B = a .route .now in
-    let h = sym (c .before .trail2 .given .1) ∙ c5 .follow .ensures .0 in
-    let ch = chain R W (a .layer) (a .node) (a .cell) in
-    let l = asked-label (a .request) (a .arcs .now) (s .pre .0) (a .shape) (s .pre .1) W (length B) (a .layer) (a .node) (a .cell)
-    (c17 .if1 .left) (c15 .if2 .left) _ (c14 .beyond .ensures) (c13 .if3 .left) _ (c12 .label .ensures) (c11 .word .result) (c11 .word .ensures) in
-    let w = at-whole (a .request) (a .arcs .now) (s .pre .0) (a .shape) (s .pre .1) W (length B) (a .layer) (a .node) (a .cell)
-    (c17 .if1 .left) (c15 .if2 .left) _ (c14 .beyond .ensures) (c13 .if3 .left) _ (c12 .label .ensures) (c11 .word .result) (c11 .word .ensures) (c10 .if4 .left) _ h in
-    let x = three-costs R _ (labelIn R W (a .layer) (a .node) (a .cell)) _ _ _ l (c9 .cost .ensures) (c8 .cost2 .ensures) (c7 .cost3 .ensures) in
-    let r = route-all R W B (a .layer) (a .node) (a .cell) w _ (was-whole ch _ h .1) _ _ x (c5 .follow .ensures .1) in
-    (r .0, (r .1, r .2))
+    let h = was-whole (chain-of s) _ (sym (c .before .trail2 .given .1) ∙ f .follow .ensures .0) in
+    let w = chain-whole (R s) (W s) (length (B s)) (a .layer) (a .node) (a .cell) (is-there k) (λ z. i .if4 .left (own-step k ∙ z)) _ (h .0) in
+    let x = three-costs (R s) _ (labelIn (R s) (W s) (a .layer) (a .node) (a .cell)) _ _ _ (own-label k) (g .before .before .cost .ensures) (g .before .cost2 .ensures) (g .cost3 .ensures) in
+    route-all (R s) (W s) (B s) (a .layer) (a .node) (a .cell) w _ (h .1) _ _ x (f .follow .ensures .1)
 
 pub read-shaped-spec : {M : Type 1} → statement M
 read-shaped-spec =

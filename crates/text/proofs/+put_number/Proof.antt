@@ -8,127 +8,86 @@ use Rattle.text.proofs.Puts.{put-small, put-more}
 use borrow.Fn.Kinds.{In}
 use Rattle.text.proofs.put_number.Reads as put-number
 use Rattle.text.proofs.put_number.Kinds as put-number-kinds
-use Rattle.text.proofs.+put_number.Lts-put_number as put-number-lts
+use Rattle.text.proofs.+put_number.Lts-put_number as lts
 use Rattle.text.proofs.+put_number.{statement}
 use Rattle.text.proofs.+put_number.Tie.{close}
 
 abbrev μ-put-number : Measures 1 put-number-kinds.ps ℕ
 μ-put-number κs a = a .1 .1 .0
 
-abbrev put-number-at : ℕ → In 1 put-number-kinds.ps
-put-number-at t =
-    and 1 put-number-kinds.ps (is 1 put-number-kinds.ps μ-put-number t) put-number.Pre
+abbrev at : ℕ → In 1 put-number-kinds.ps
+at t = and 1 put-number-kinds.ps (is 1 put-number-kinds.ps μ-put-number t) put-number.Pre
 
-abbrev put-number-below : ℕ → In 1 put-number-kinds.ps
-put-number-below t =
-    and 1 put-number-kinds.ps (falls 1 put-number-kinds.ps _<_ μ-put-number t) put-number.Pre
+abbrev below : ℕ → In 1 put-number-kinds.ps
+below t = and 1 put-number-kinds.ps (falls 1 put-number-kinds.ps _<_ μ-put-number t) put-number.Pre
 
-put-number-cast-out :
-    (t : ℕ) →
-    put-number-lts.Need-cast-out
-    (put-number-below t, put-number.Post)
-    (put-number-at t)
-    put-number.Post
-put-number-cast-out t c = search needs
+-- what the call asks and tells: `put_number` itself, of a smaller number
+abbrev calls : ℕ → lts.Claims
+calls t = (below t, put-number.Post)
 
-put-number-add-out :
-    (t : ℕ) →
-    put-number-lts.Need-add-out
-    (put-number-below t, put-number.Post)
-    (put-number-at t)
-    put-number.Post
-put-number-add-out t c = search needs
+module _ (t : ℕ) where
+  -- ---- one digit
 
-put-number-slice-write-out : (t : ℕ) → put-number-lts.Need-slice-write-out (
-  put-number-below t,
-  put-number.Post,
-) (put-number-at t) put-number.Post
-put-number-slice-write-out t c = omega (arith, width-small (c .before .before .args .n) (c .if1 .taken))
+  cast-out : lts.Need-cast-out (calls t) (at t) put-number.Post
+  cast-out c = search needs
 
-put-number-add-result : (t : ℕ) → put-number-lts.Need-add-result (
-  put-number-below t,
-  put-number.Post,
-) (put-number-at t) put-number.Post
-put-number-add-result t c = omega (arith, width-small (c .before .before .args .n) (c .if1 .taken))
+  add-out : lts.Need-add-out (calls t) (at t) put-number.Post
+  add-out c = search needs
 
-put-number-same-length : (t : ℕ) → put-number-lts.Need-same-length (
-  put-number-below t,
-  put-number.Post,
-) (put-number-at t) put-number.Post
-put-number-same-length t c = search needs
+  slice-write-out : lts.Need-slice-write-out (calls t) (at t) put-number.Post
+  slice-write-out c = omega (arith, width-small (c .before .before .args .n) (c .if1 .taken))
 
-put-number-returns :
-    (t : ℕ) →
-    put-number-lts.Need-returns
-    (put-number-below t, put-number.Post)
-    (put-number-at t)
-    put-number.Post
-put-number-returns t c =
-    (omega (arith, width-small (c .before .before .args .n) (c .if1 .taken)), put-small _ _ _ (c .if1 .taken))
+  add-result : lts.Need-add-result (calls t) (at t) put-number.Post
+  add-result c = omega (arith, width-small (c .before .before .args .n) (c .if1 .taken))
 
-put-number-put-number-requires : (t : ℕ) → put-number-lts.Need-put-number-requires (
-  put-number-below t,
-  put-number.Post,
-) (put-number-at t) put-number.Post
-put-number-put-number-requires t c κs = omega (arith, width-more (c .before .before .before .args .n) (omega arith))
+  same-length : lts.Need-same-length (calls t) (at t) put-number.Post
+  same-length c = search needs
 
-put-number-cast-out-2 : (t : ℕ) → put-number-lts.Need-cast-out-2 (
-  put-number-below t,
-  put-number.Post,
-) (put-number-at t) put-number.Post
-put-number-cast-out-2 t c = search needs
+  returns : lts.Need-returns (calls t) (at t) put-number.Post
+  returns c = (omega (arith, width-small (c .before .before .args .n) (c .if1 .taken)), put-small _ _ _ (c .if1 .taken))
 
-put-number-add-out-2 : (t : ℕ) → put-number-lts.Need-add-out-2 (
-  put-number-below t,
-  put-number.Post,
-) (put-number-at t) put-number.Post
-put-number-add-out-2 t c = search needs
+  -- ---- a tenth's digits, and one more
 
-put-number-slice-write-out-2 : (t : ℕ) → put-number-lts.Need-slice-write-out-2 (
-  put-number-below t,
-  put-number.Post,
-) (put-number-at t) put-number.Post
-put-number-slice-write-out-2 t c = omega (arith, width-more (c .before .before .before .before .before .before .args .n) (omega arith), c .before .before .put-number .ensures .0, c .before .before .put-number .kept .0)
+  put-number-requires : lts.Need-put-number-requires (calls t) (at t) put-number.Post
+  put-number-requires c κs = omega (arith, width-more (c .before .before .before .args .n) (omega arith))
 
-put-number-add-result-2 : (t : ℕ) → put-number-lts.Need-add-result-2 (
-  put-number-below t,
-  put-number.Post,
-) (put-number-at t) put-number.Post
-put-number-add-result-2 t c = omega (arith, width-more (c .before .before .before .before .before .before .args .n) (omega arith), c .before .before .put-number .ensures .0, c .before .before .put-number .kept .0)
+  cast-out-2 : lts.Need-cast-out-2 (calls t) (at t) put-number.Post
+  cast-out-2 c = search needs
 
-put-number-same-length-2 : (t : ℕ) → put-number-lts.Need-same-length-2 (
-  put-number-below t,
-  put-number.Post,
-) (put-number-at t) put-number.Post
-put-number-same-length-2 t c = search needs
+  add-out-2 : lts.Need-add-out-2 (calls t) (at t) put-number.Post
+  add-out-2 c = search needs
 
-put-number-returns-2 : (t : ℕ) → put-number-lts.Need-returns-2 (
-  put-number-below t,
-  put-number.Post,
-) (put-number-at t) put-number.Post
-put-number-returns-2 t c =
-    let a = c .before .before .before .before .before .before .args in
-    let w = width-more (a .n) (omega arith) in
-    let e = c .before .before .put-number .ensures in
-    (omega arith, put-more _ _ _ _ _ (omega arith) (e .0) (e .1))
+  slice-write-out-2 : lts.Need-slice-write-out-2 (calls t) (at t) put-number.Post
+  slice-write-out-2 c =
+      let p = c .before .before .put-number in
+      omega (arith, width-more (c .before .before .before .before .before .before .args .n) (omega arith), p .ensures .0, p .kept .0)
+
+  add-result-2 : lts.Need-add-result-2 (calls t) (at t) put-number.Post
+  add-result-2 c =
+      let p = c .before .before .put-number in
+      omega (arith, width-more (c .before .before .before .before .before .before .args .n) (omega arith), p .ensures .0, p .kept .0)
+
+  same-length-2 : lts.Need-same-length-2 (calls t) (at t) put-number.Post
+  same-length-2 c = search needs
+
+  returns-2 : lts.Need-returns-2 (calls t) (at t) put-number.Post
+  returns-2 c =
+      let w = width-more (c .before .before .before .before .before .before .args .n) (omega arith) in
+      let e = c .before .before .put-number .ensures in
+      (omega arith, put-more _ _ _ _ _ (omega arith) (e .0) (e .1))
 
 pub +put-number-spec : {M : Type 1} → statement M
-+put-number-spec = close μ-put-number λ t. put-number-lts.spec (
-  put-number-below t,
-  put-number.Post,
-)
-    (put-number-at t)
-    put-number.Post
-    (put-number-cast-out t)
-    (put-number-add-out t)
-    (put-number-slice-write-out t)
-    (put-number-add-result t)
-    (put-number-same-length t)
-    (put-number-returns t)
-    (put-number-put-number-requires t)
-    (put-number-cast-out-2 t)
-    (put-number-add-out-2 t)
-    (put-number-slice-write-out-2 t)
-    (put-number-add-result-2 t)
-    (put-number-same-length-2 t)
-    (put-number-returns-2 t)
++put-number-spec = close μ-put-number λ t. lts.spec (calls t) (at t) put-number.Post
+    (cast-out t)
+    (add-out t)
+    (slice-write-out t)
+    (add-result t)
+    (same-length t)
+    (returns t)
+    (put-number-requires t)
+    (cast-out-2 t)
+    (add-out-2 t)
+    (slice-write-out-2 t)
+    (add-result-2 t)
+    (same-length-2 t)
+    (returns-2 t)

@@ -6,7 +6,7 @@ use native.Mathlib.Omega.{arith}
 use lib.ListN.{length, take, set, getD, length-set}
 use lib.Seq.{take-all}
 use Rattle.words.specs.Pieces.{write}
-use Rattle.text.proofs.Fields.{write-none}
+use Rattle.words.proofs.Writes.{write-none}
 use Rattle.text.proofs.Puts.{put-next}
 use Rattle.text.proofs.put_bytes.Statement.{statement}
 use Rattle.text.proofs.put_bytes.Tie as tie

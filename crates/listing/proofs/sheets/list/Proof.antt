@@ -62,10 +62,16 @@ cast-words : tie.Need-cast-words
 cast-words c = search needs
 
 array-share-prefix-arcs : tie.Need-array-share-prefix-arcs
-array-share-prefix-arcs c = omega (arith, few (c .before .before .before .before) _ (c .before .outcome2 .given .1), long (c .before .before .before .before) _ (c .before .outcome2 .given .1))
+array-share-prefix-arcs c =
+    let k = c .before .before .before .before in
+    let e = c .before .outcome2 .given .1 in
+    omega (arith, few k _ e, long k _ e)
 
 slice-aggregate-list-request : tie.Need-slice-aggregate-list-request
-slice-aggregate-list-request c = sym (length-take-le _ _ (omega (arith, few (c .before .before .before .before .before) _ (c .before .before .outcome2 .given .1), long (c .before .before .before .before .before) _ (c .before .before .outcome2 .given .1))))
+slice-aggregate-list-request c =
+    let k = c .before .before .before .before .before in
+    let e = c .before .before .outcome2 .given .1 in
+    sym (length-take-le _ _ (omega (arith, few k _ e, long k _ e)))
 
 list-request-requires : tie.Need-list-request-requires
 list-request-requires c κs = search needs

@@ -11,12 +11,13 @@ use Rattle.request.specs.Shape.{ladders, labelCount}
 use Rattle.rounds.specs.Rounds.{table, tries}
 use Rattle.table.specs.declared.Built.the-variants as built
 use Rattle.table.specs.Build.{builtOf}
+use Rattle.route.proofs.Reading.{words-is}
 use Rattle.listing.specs.declared.Listed.the-variants as listed
 use Rattle.listing.specs.Listing.{listingText}
 use Rattle.listing.specs.Print.{printedOf, bytesAfter, Tabled}
 use Rattle.listing.specs.List.{listingOf}
 use Rattle.listing.proofs.Rooms.{ladders-few, tries-few}
-use Rattle.listing.proofs.Requests.{lists-many, lists-printed, build-refused, build-tries, build-words, words-are, tabled, table-front}
+use Rattle.listing.proofs.Requests.{lists-many, lists-printed, build-refused, build-tries, build-words, tabled, table-front}
 use Rattle.listing.proofs.sheets.list_shaped.Statement.{statement}
 use Rattle.listing.proofs.sheets.list_shaped.Tie as tie
 
@@ -62,7 +63,7 @@ module _ (c : tie.After-build) where
 
     -- so do the table's words
     few : start-of .args .shape .labels * (start-of .args .request .criteria + 2) ≤ 12288
-    few = omega (arith, fits, words-are (start-of .args .request) (start-of .args .arcs .now) (start-of .pre .0) (start-of .args .shape) (start-of .pre .1))
+    few = omega (arith, fits, words-is (start-of .args .request) (start-of .args .arcs .now) (start-of .pre .0) (start-of .args .shape) (start-of .pre .1))
 
     -- the words in front are the table
     front : take (start-of .args .shape .labels * (start-of .args .request .criteria + 2)) (c .build .last .1 .1 .1 .0) ≡ table R-of
@@ -106,10 +107,16 @@ mul-words : tie.Need-mul-words
 mul-words c = omega (arith, few (c .before .before .before .before .before .before .before) _ (c .before .before .before .built2 .given .1))
 
 array-share-prefix-labels : tie.Need-array-share-prefix-labels
-array-share-prefix-labels c = omega (arith, few (c .before .before .before .before .before .before .before) _ (c .before .before .before .built2 .given .1), long (c .before .before .before .before .before .before .before) _ (c .before .before .before .built2 .given .1))
+array-share-prefix-labels c =
+    let k = c .before .before .before .before .before .before .before in
+    let e = c .before .before .before .built2 .given .1 in
+    omega (arith, few k _ e, long k _ e)
 
 slice-aggregate-print : tie.Need-slice-aggregate-print
-slice-aggregate-print c = sym (length-take-le _ _ (omega (arith, few (c .before .before .before .before .before .before .before .before) _ (c .before .before .before .before .built2 .given .1), long (c .before .before .before .before .before .before .before .before) _ (c .before .before .before .before .built2 .given .1))))
+slice-aggregate-print c =
+    let k = c .before .before .before .before .before .before .before .before in
+    let e = c .before .before .before .before .built2 .given .1 in
+    sym (length-take-le _ _ (omega (arith, few k _ e, long k _ e)))
 
 cast-print : tie.Need-cast-print
 cast-print c = omega (arith, small (c .before .before .before .before .before .before .before .before) _ (c .before .before .before .before .built2 .given .1))
@@ -144,4 +151,23 @@ returns-2 c =
     (c .answer-of .ensures ∙ l .says, l .left)
 
 pub list-shaped-spec : {M : Type 1} → statement M
-list-shaped-spec = tie.close (tie.spec slice-aggregate-build slice-aggregate-build-2 build-requires enum-known-built enum-known-built-2 cast-words cast-words-2 add-words mul-words array-share-prefix-labels slice-aggregate-print cast-print print-requires answer-of-requires returns same-length returns-2)
+list-shaped-spec =
+    tie.close
+    (tie.spec
+    slice-aggregate-build
+    slice-aggregate-build-2
+    build-requires
+    enum-known-built
+    enum-known-built-2
+    cast-words
+    cast-words-2
+    add-words
+    mul-words
+    array-share-prefix-labels
+    slice-aggregate-print
+    cast-print
+    print-requires
+    answer-of-requires
+    returns
+    same-length
+    returns-2)

@@ -1,8 +1,9 @@
 -- `piece`: what the buffer has of it. Assumes nothing.
 use Prim.Native.Nat.{_-_}
 use native.Mathlib.Omega.{arith}
-use Rattle.route.proofs.Places.{piece-fits, piece-none, piece-some, piece-all}
+use Rattle.route.proofs.Places.{piece-fits, piece-none, piece-some}
 use borrow.Author.Needs.{needs}
+use Rattle.words.proofs.Pieces.{piece-part}
 use Rattle.route.proofs.holds.piece.Statement.{statement}
 use Rattle.route.proofs.holds.piece.Tie as tie
 
@@ -56,7 +57,7 @@ part-result-end-3 : tie.Need-part-result-end-3
 part-result-end-3 c = search needs
 
 returns-3 : tie.Need-returns-3
-returns-3 c = piece-all (c .before .before .before .args .s .now) (c .before .before .before .args .k) (c .before .before .before .args .w)
+returns-3 c = let a = c .before .before .before .args in piece-part (a .w) (a .s .now) (a .k)
 
 pub piece-spec : {M : Type 1} → statement M
 piece-spec =

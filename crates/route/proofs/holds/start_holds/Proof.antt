@@ -1,14 +1,30 @@
 -- `start_holds`: one test after another, and the costs last. Assumes nothing.
-use Prim.Native.Nat.{_-_, _<_}
+use Prim.Native.Nat.{ℕ, _-_, _<_}
 use mathlib.Core.Path.{sym, _∙_}
+use mathlib.Core.List.{List}
 use lib.ListN.{length}
+use lib.Dec.{T}
 use native.Mathlib.Omega.{arith}
 use Rattle.request.specs.Request.{asked}
 use Rattle.rounds.specs.Label.{costs, step, from}
-use Rattle.route.proofs.Holding.{not-held, word-inside, start-facts, start-rest}
+use Rattle.route.specs.Chain.{startHolds}
+use Rattle.route.proofs.Holding.{not-held, word-inside, Starts, start-facts, start-rest}
 use borrow.Author.Needs.{needs}
 use Rattle.route.proofs.holds.start_holds.Statement.{statement}
 use Rattle.route.proofs.holds.start_holds.Tie as tie
+
+-- what the label has, were it a start
+were : (s : tie.Start) (arcs : List ℕ) → T (startHolds (asked (s .args .q) arcs) (s .args .i) (s .args .l .now) (s .args .v) (s .args .c))
+    → Starts (asked (s .args .q) arcs) (s .args .i) (s .args .l .now) (s .args .v) (s .args .c)
+were s arcs t = let a = s .args in start-facts (asked (a .q) arcs) (a .i) (a .l .now) (a .v) (a .c) t
+
+-- its step is 1, so it has a step and the costs before it
+long : (c : tie.After-word2) → c .before .before .before .before .before .before .before .before .before .args .q .criteria < length (c .before .before .before .before .before .before .before .before .before .args .l .now)
+long c =
+    let a = c .before .before .before .before .before .before .before .before .before .args in
+    let is-step = c .before .before .before .before .before .before .word .ensures in
+    let is-one = c .before .before .before .before .before .if1 .left in
+    word-inside (a .l .now) (a .q .criteria) (λ e. absurd (omega arith))
 
 cast-d : tie.Need-cast-d
 cast-d c = search needs
@@ -18,20 +34,16 @@ word-requires c κs = search needs
 
 returns : tie.Need-returns
 unfolding step
-returns c =
-    λ arcs. not-held _ (λ t. let a = c .before .before .before .before .args in let p = start-facts (asked (a .q) arcs) (a .i) (a .l .now) (a .v) (a .c) t in c .if1 .taken (c .before .word .ensures ∙ p .step-is))
+returns c = λ arcs. not-held _ (λ t. c .if1 .taken (c .before .word .ensures ∙ were (c .before .before .before .before) arcs t .step-is))
 
 returns-2 : tie.Need-returns-2
-returns-2 c =
-    λ arcs. not-held _ (λ t. let a = c .before .before .before .before .before .args in let p = start-facts (asked (a .q) arcs) (a .i) (a .l .now) (a .v) (a .c) t in c .if2 .taken (p .layer-is))
+returns-2 c = λ arcs. not-held _ (λ t. c .if2 .taken (were (c .before .before .before .before .before) arcs t .layer-is))
 
 returns-3 : tie.Need-returns-3
-returns-3 c =
-    λ arcs. not-held _ (λ t. let a = c .before .before .before .before .before .before .before .args in let p = start-facts (asked (a .q) arcs) (a .i) (a .l .now) (a .v) (a .c) t in c .if3 .taken (p .node-is))
+returns-3 c = λ arcs. not-held _ (λ t. c .if3 .taken (were (c .before .before .before .before .before .before .before) arcs t .node-is))
 
 returns-4 : tie.Need-returns-4
-returns-4 c =
-    λ arcs. not-held _ (λ t. let a = c .before .before .before .before .before .before .before .before .args in let p = start-facts (asked (a .q) arcs) (a .i) (a .l .now) (a .v) (a .c) t in c .if4 .taken (p .cell-is))
+returns-4 c = λ arcs. not-held _ (λ t. c .if4 .taken (were (c .before .before .before .before .before .before .before .before) arcs t .cell-is))
 
 add-word : tie.Need-add-word
 add-word c = search needs
@@ -41,19 +53,16 @@ word-requires-2 c κs = search needs
 
 returns-5 : tie.Need-returns-5
 unfolding from
-returns-5 c =
-    λ arcs. not-held _ (λ t. let a = c .before .before .before .before .before .before .before .before .before .before .args in let p = start-facts (asked (a .q) arcs) (a .i) (a .l .now) (a .v) (a .c) t in c .if5 .taken (c .before .word2 .ensures ∙ p .from-is))
+returns-5 c = λ arcs. not-held _ (λ t. c .if5 .taken (c .before .word2 .ensures ∙ were (c .before .before .before .before .before .before .before .before .before .before) arcs t .from-is))
 
 costs-nothing-requires : tie.Need-costs-nothing-requires
-costs-nothing-requires c κs =
-    let a = c .before .before .before .before .before .before .before .before .before .before .args in
-    let w : a .q .criteria < length (a .l .now) = word-inside (a .l .now) (a .q .criteria) (λ e. let x = c .before .before .before .before .before .before .before .word .ensures in let y = c .before .before .before .before .before .before .if1 .left in absurd (omega arith)) in
-    omega arith
+costs-nothing-requires c κs = omega (arith, long (c .before))
 
 returns-6 : tie.Need-returns-6
 unfolding step from costs
 returns-6 c =
-    λ arcs. let a = c .before .before .before .before .before .before .before .before .before .before .before .args in c .costs-nothing .ensures
+    λ arcs. let a = c .before .before .before .before .before .before .before .before .before .before .before .args in
+    c .costs-nothing .ensures
     ∙ start-rest (asked (a .q) arcs) (a .i) (a .l .now) (a .v) (a .c)
     (sym (c .before .before .before .before .before .before .before .before .word .ensures) ∙ c .before .before .before .before .before .before .before .if1 .left)
     (c .before .before .before .before .before .before .if2 .left) (c .before .before .before .before .if3 .left) (c .before .before .before .if4 .left)

@@ -77,4 +77,21 @@ returns-2 c =
     sym (ap askKind (told-bad _ _ _ _ _ (w .ensures .0) (lent-words (s .args .d) (s .pre .1)) _ (c .enum-told2 .given .1)))
 
 pub ask-line-spec : {M : Type 1} → statement M
-ask-line-spec = tie.close (tie.spec mul-n slice-aggregate-word-line array-borrow-prefix-v slice-aggregate-word-line-2 word-line-requires enum-told array-read-t14 array-read-t17 array-read-t20 array-read-t23 array-read-t26 array-read-t29 enum-told-2 returns returns-2)
+ask-line-spec =
+    tie.close
+    (tie.spec
+    mul-n
+    slice-aggregate-word-line
+    array-borrow-prefix-v
+    slice-aggregate-word-line-2
+    word-line-requires
+    enum-told
+    array-read-t14
+    array-read-t17
+    array-read-t20
+    array-read-t23
+    array-read-t26
+    array-read-t29
+    enum-told-2
+    returns
+    returns-2)

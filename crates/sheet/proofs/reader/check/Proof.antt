@@ -112,4 +112,25 @@ returns-5 c =
     sym (ap formOf (first-good w e ∙ first-other (two w) (drop (length (line w) + 1) (sheet w)) (c .before .if2 .left) (c .if3 .left)))
 
 pub check-spec : {M : Type 1} → statement M
-check-spec = tie.close (tie.spec cut-requires returns slice-aggregate-word-line slice-aggregate-word-line-2 word-line-requires enum-told enum-told-2 array-read-if2 add-check-lines array-read-check-lines check-lines-requires returns-2 array-read-if3 add-check-lines-2 array-read-check-lines-2 check-lines-requires-2 returns-3 returns-4 returns-5)
+check-spec =
+    tie.close
+    (tie.spec
+    cut-requires
+    returns
+    slice-aggregate-word-line
+    slice-aggregate-word-line-2
+    word-line-requires
+    enum-told
+    enum-told-2
+    array-read-if2
+    add-check-lines
+    array-read-check-lines
+    check-lines-requires
+    returns-2
+    array-read-if3
+    add-check-lines-2
+    array-read-check-lines-2
+    check-lines-requires-2
+    returns-3
+    returns-4
+    returns-5)

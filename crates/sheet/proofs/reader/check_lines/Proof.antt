@@ -135,4 +135,30 @@ returns-5 : tie.Need-returns-5 Inv-loop μ-loop
 returns-5 c = sym (c .before .loop .inv .3 ∙ ap formOf (lines-none _ _ _ _ _ _ (c .loop-test .left)))
 
 pub check-lines-spec : {M : Type 1} → statement M
-check-lines-spec = tie.close (tie.spec Inv-loop μ-loop loop-holds sub-rest part-rest-start part-rest-end cut-requires add-e returns kind-of-requires enum-told add-m add-k add-at loop-less loop-again enum-known-ask add-if2 returns-2 add-t21 returns-3 enum-told-2 returns-4 returns-5)
+check-lines-spec =
+    tie.close
+    (tie.spec
+    Inv-loop
+    μ-loop
+    loop-holds
+    sub-rest
+    part-rest-start
+    part-rest-end
+    cut-requires
+    add-e
+    returns
+    kind-of-requires
+    enum-told
+    add-m
+    add-k
+    add-at
+    loop-less
+    loop-again
+    enum-known-ask
+    add-if2
+    returns-2
+    add-t21
+    returns-3
+    enum-told-2
+    returns-4
+    returns-5)

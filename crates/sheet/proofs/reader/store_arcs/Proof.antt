@@ -5,9 +5,9 @@ use native.Mathlib.Omega.{arith}
 use lib.ListN.{length, take}
 use borrow.Author.Needs.{needs}
 use Rattle.words.specs.Pieces.{write}
-use Rattle.words.proofs.Writes.{length-write}
+use Rattle.words.proofs.Writes.{length-write, write-none}
 use Rattle.text.specs.Field.{before}
-use Rattle.text.proofs.Fields.{write-none, rest-is}
+use Rattle.text.proofs.Fields.{rest-is}
 use Rattle.sheet.specs.Grammar.{lf, arcWord, sheetOf}
 use Rattle.sheet.specs.Rendering.{Sheetable}
 use Rattle.sheet.specs.Reader.{wordsOf}
@@ -15,7 +15,6 @@ use Rattle.sheet.proofs.LineKinds.{filled}
 use Rattle.sheet.proofs.Stores.{askedOf, form-sheetable, Going, Starts, starts, Steps, steps, stored, mid-length, going-end}
 use Rattle.sheet.proofs.reader.store_arcs.Statement.{statement}
 use Rattle.sheet.proofs.reader.store_arcs.Tie as tie
-use Rattle.sheet.proofs.reader.store_arcs.Reads as reads
 
 abbrev Inv-loop : tie.InvT-loop
 Inv-loop s arcs₀ m n at₀ p₀ i₀ arcs at p i =
@@ -128,4 +127,29 @@ returns c =
     l .loop .inv .3 ∙ ap (write _ 0) (going-end s _ (l .loop .at) (l .loop .p) (l .loop .i) (omega arith) (omega arith) (l .loop .inv .4))
 
 pub store-arcs-spec : {M : Type 1} → statement M
-store-arcs-spec = tie.close (tie.spec Inv-loop μ-loop cut-requires add-n add-at loop-holds sub-rest part-rest-start part-rest-end cut-requires-2 add-e mul-arc-line sub-arc-line part-arc-line-start part-arc-line-end arc-line-requires add-at-2 add-at-3 add-i loop-less loop-again same-length returns)
+store-arcs-spec =
+    tie.close
+    (tie.spec
+    Inv-loop
+    μ-loop
+    cut-requires
+    add-n
+    add-at
+    loop-holds
+    sub-rest
+    part-rest-start
+    part-rest-end
+    cut-requires-2
+    add-e
+    mul-arc-line
+    sub-arc-line
+    part-arc-line-start
+    part-arc-line-end
+    arc-line-requires
+    add-at-2
+    add-at-3
+    add-i
+    loop-less
+    loop-again
+    same-length
+    returns)

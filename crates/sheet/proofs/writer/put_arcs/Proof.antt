@@ -7,9 +7,9 @@ use native.Mathlib.Nat.{add-mul, one-mul, zero-mul, suc-mul, mul-le-mul-right}
 use lib.ListN.{length, take, drop}
 use borrow.Author.Needs.{needs}
 use Rattle.words.specs.Pieces.{write}
+use Rattle.words.proofs.Writes.{write-none}
 use Rattle.text.specs.Field.{before}
 use Rattle.text.specs.Line.{lineText}
-use Rattle.text.proofs.Fields.{write-none}
 use Rattle.sheet.specs.Grammar.{tab, arcWord}
 use Rattle.sheet.specs.Rendering.{arcLines}
 use Rattle.sheet.proofs.Lengths.{arcs-none, arcs-room}

@@ -105,4 +105,21 @@ returns c =
     (ends p) (q .ensures .0) (p .put-line .ensures .1) (q .ensures .1) (l .ensures .1) e
 
 pub put-sheet-spec : {M : Type 1} → statement M
-put-sheet-spec = tie.close (tie.spec cast-d add-w slice-aggregate-put-line slice-aggregate-put-line-2 put-line-requires div-put-arcs put-arcs-requires asks-requires mul-n slice-aggregate-put-line-3 array-share-prefix-v slice-aggregate-put-line-4 put-line-requires-2 same-length returns)
+put-sheet-spec =
+    tie.close
+    (tie.spec
+    cast-d
+    add-w
+    slice-aggregate-put-line
+    slice-aggregate-put-line-2
+    put-line-requires
+    div-put-arcs
+    put-arcs-requires
+    asks-requires
+    mul-n
+    slice-aggregate-put-line-3
+    array-share-prefix-v
+    slice-aggregate-put-line-4
+    put-line-requires-2
+    same-length
+    returns)

@@ -90,7 +90,28 @@ returns c =
     let s = start-of c in
     let r = s .args .request in
     let a = ap partedWidth (asks-are r _ (c .before .before .before .before .before .asks .ensures)) in
-    (omega (arith, written-length r (s .args .arcs .now) (s .pre), c .widths3 .ensures .0, c .before .before .widths2 .ensures .0, c .before .before .before .widths .ensures .0, a), omega (arith, asks-few c, words-wide c, c .before .before .before .widths .ensures .1, s .pre .arcs))
+    let w = c .before .before .before .widths .ensures in
+    (omega (arith, written-length r (s .args .arcs .now) (s .pre), c .widths3 .ensures .0, c .before .before .widths2 .ensures .0, w .0, a), omega (arith, asks-few c, words-wide c, w .1, s .pre .arcs))
 
 pub sheet-length-spec : {M : Type 1} → statement M
-sheet-length-spec = tie.close (tie.spec cast-d add-m div-m asks-requires mul-n slice-aggregate-widths widths-requires add-lines mul-lines add-lines-2 widths-requires-2 add-lines-3 add-result array-share-prefix-v slice-aggregate-widths-2 widths-requires-3 add-result-2 returns)
+sheet-length-spec =
+    tie.close
+    (tie.spec
+    cast-d
+    add-m
+    div-m
+    asks-requires
+    mul-n
+    slice-aggregate-widths
+    widths-requires
+    add-lines
+    mul-lines
+    add-lines-2
+    widths-requires-2
+    add-lines-3
+    add-result
+    array-share-prefix-v
+    slice-aggregate-widths-2
+    widths-requires-3
+    add-result-2
+    returns)

@@ -13,13 +13,17 @@ use Rattle.sheet.proofs.writer.write.Statement.{statement}
 use Rattle.sheet.proofs.writer.write.Tie as tie
 
 -- rows 3 and 7 do not hold
-ranged : (c : tie.Else4) → Ranged (c .before .before .before .before .before .before .before .before .before .args .request .criteria) (c .before .before .before .before .before .before .before .before .before .args .arcs .now)
-ranged c =
-    let p = c .before .before .before in
-    record { at-least = p .before .before .if1 .left; at-most = p .if2 .left; multiple = c .before .if3 .left; arcs = c .if4 .left }
+module _ (c : tie.Else4) where
+  abbrev start-of : tie.Start
+  start-of = c .before .before .before .before .before .before .before .before .before
+
+  ranged : Ranged (start-of .args .request .criteria) (start-of .args .arcs .now)
+  ranged =
+      let p = c .before .before .before in
+      record { at-least = p .before .before .if1 .left; at-most = p .if2 .left; multiple = c .before .if3 .left; arcs = c .if4 .left }
 
 -- nor does row 11
-not-large : (c : tie.Else5) → anyOver (numbersOf (c .before .before .before .before .before .before .before .before .before .before .before .args .request) (c .before .before .before .before .before .before .before .before .before .before .before .args .arcs .now)) ≡ false
+not-large : (c : tie.Else5) → anyOver (numbersOf (start-of (c .before .before) .args .request) (start-of (c .before .before) .args .arcs .now)) ≡ false
 not-large c = sym (c .before .over .ensures) ∙ c .if5 .left
 
 refusal-requires : tie.Need-refusal-requires
@@ -108,7 +112,8 @@ returns-7 c =
     let p = c .before in
     let s = p .before .before .before .before .before .before .before .before .before .before .before .before .before .before in
     let n = p .before .before .sheet-length .ensures .0 in
-    let w = writes-short (s .args .request) (s .args .arcs .now) (s .args .sheet .now) (ranged (p .before .before .before .before .before)) (not-large (p .before .before .before)) (omega (arith, p .before .if6 .left)) (omega (arith, p .if7 .taken)) in
+    let w = writes-short (s .args .request) (s .args .arcs .now) (s .args .sheet .now) (ranged (p .before .before .before .before .before)) (not-large (p .before .before .before))
+    (omega (arith, p .before .if6 .left)) (omega (arith, p .if7 .taken)) in
     rw (c .refusal7 .ensures) (w .says, w .bytes)
 
 put-sheet-requires : tie.Need-put-sheet-requires
@@ -129,4 +134,30 @@ returns-8 c =
     (ap (λ (k : ℕ). writingSaid (Bytes k)) n ∙ w .says, c .before .before .put-sheet .ensures ∙ w .bytes)
 
 pub write-spec : {M : Type 1} → statement M
-write-spec = tie.close (tie.spec refusal-requires returns refusal-requires-2 returns-2 cast-w add-w rem-if3 refusal-requires-3 returns-3 div-if4 refusal-requires-4 returns-4 over-requires refusal-requires-5 returns-5 sheet-length-requires refusal-requires-6 returns-6 refusal-requires-7 returns-7 put-sheet-requires cast-t13 same-length returns-8)
+write-spec =
+    tie.close
+    (tie.spec
+    refusal-requires
+    returns
+    refusal-requires-2
+    returns-2
+    cast-w
+    add-w
+    rem-if3
+    refusal-requires-3
+    returns-3
+    div-if4
+    refusal-requires-4
+    returns-4
+    over-requires
+    refusal-requires-5
+    returns-5
+    sheet-length-requires
+    refusal-requires-6
+    returns-6
+    refusal-requires-7
+    returns-7
+    put-sheet-requires
+    cast-t13
+    same-length
+    returns-8)

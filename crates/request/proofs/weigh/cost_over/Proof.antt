@@ -11,8 +11,8 @@ use Rattle.words.proofs.Loops.{below-next, any-one, any-none}
 use Rattle.request.proofs.Tests.{lt-holds, lt-fails}
 use borrow.Author.Needs.{needs}
 use native.Mathlib.Omega.{arith}
-use Rattle.request.proofs.cost_over.Statement.{statement}
-use Rattle.request.proofs.cost_over.Tie as tie
+use Rattle.request.proofs.weigh.cost_over.Statement.{statement}
+use Rattle.request.proofs.weigh.cost_over.Tie as tie
 
 -- cost j of the arc is over
 abbrev over : List ℕ → ℕ → Bool

@@ -3,8 +3,8 @@ use mathlib.Core.Path.{sym, ap, _∙_}
 use Rattle.request.specs.Answer.{said}
 use Rattle.request.proofs.Branches.{words-over, words-many, words-good}
 use borrow.Author.Needs.{needs}
-use Rattle.request.proofs.weigh_arc_words.Statement.{statement}
-use Rattle.request.proofs.weigh_arc_words.Tie as tie
+use Rattle.request.proofs.weigh.weigh_arc_words.Statement.{statement}
+use Rattle.request.proofs.weigh.weigh_arc_words.Tie as tie
 
 rem-if1 : tie.Need-rem-if1
 rem-if1 c = search needs

@@ -4,8 +4,8 @@ use mathlib.Core.Bool.{Bool, _||_}
 use lib.Dec.{ltb}
 use borrow.Author.Tests.{lt-ltb, le-ltb}
 use Rattle.request.specs.Rows.{outside}
-use Rattle.request.proofs.outside.Statement.{statement}
-use Rattle.request.proofs.outside.Tie as tie
+use Rattle.request.proofs.weigh.outside.Statement.{statement}
+use Rattle.request.proofs.weigh.outside.Tie as tie
 
 returns : tie.Need-returns
 unfolding outside

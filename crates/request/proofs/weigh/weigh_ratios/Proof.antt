@@ -12,8 +12,8 @@ use Rattle.request.specs.Answer.{said}
 use Rattle.request.proofs.Branches.{ratio-q, ratio-p, ratio-good, ratios-refused}
 use borrow.Author.Needs.{needs}
 use native.Mathlib.Omega.{arith}
-use Rattle.request.proofs.weigh_ratios.Statement.{statement}
-use Rattle.request.proofs.weigh_ratios.Tie as tie
+use Rattle.request.proofs.weigh.weigh_ratios.Statement.{statement}
+use Rattle.request.proofs.weigh.weigh_ratios.Tie as tie
 
 abbrev Inv-loop : tie.InvT-loop
 Inv-loop graded ratios j₀ j = (j ≤ graded) × ((i : ℕ) → i < j → T (not (ratioRow ratios i .holds)))
@@ -91,7 +91,9 @@ loop-again : tie.Need-loop-again Inv-loop μ-loop
 loop-again c =
     let a = c .before .before .before .before .before .before .args in
     let l = c .before .before .before .before .before .loop in
-    (omega arith, below-next (λ i. T (not (ratioRow (a .t1) i .holds))) (l .j) (l .inv .1) (ratio-good (a .t1) (l .j) (false-is (sym (c .before .before .before .outside .ensures) ∙ c .before .before .if1 .left)) (false-is (sym (c .before .outside2 .ensures) ∙ c .if2 .left))))
+    let q = false-is (sym (c .before .before .before .outside .ensures) ∙ c .before .before .if1 .left) in
+    let p = false-is (sym (c .before .outside2 .ensures) ∙ c .if2 .left) in
+    (omega arith, below-next (λ i. T (not (ratioRow (a .t1) i .holds))) (l .j) (l .inv .1) (ratio-good (a .t1) (l .j) q p))
 
 returns-3 : tie.Need-returns-3 Inv-loop μ-loop
 returns-3 c =

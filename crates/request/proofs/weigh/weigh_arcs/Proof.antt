@@ -14,14 +14,22 @@ use Rattle.request.specs.Answer.{said}
 use Rattle.request.proofs.Branches.{arc-good, arcs-refused}
 use borrow.Author.Needs.{needs}
 use native.Mathlib.Omega.{arith}
-use Rattle.request.proofs.weigh_arcs.Statement.{statement}
-use Rattle.request.proofs.weigh_arcs.Tie as tie
+use Rattle.request.proofs.weigh.weigh_arcs.Statement.{statement}
+use Rattle.request.proofs.weigh.weigh_arcs.Tie as tie
 
 abbrev Inv-loop : tie.InvT-loop
 Inv-loop arcs n d w m a₀ a = (a ≤ length arcs / (d + 2)) × ((i : ℕ) → i < a → T (not (arcRow n d arcs i .holds)))
 
 abbrev μ-loop : tie.MeasureT-loop
 μ-loop arcs n d w m a₀ a = length arcs / (d + 2) - a
+
+-- at the head of the loop: arc a ends within the words
+module _ (l : tie.At-loop Inv-loop μ-loop) where
+  abbrev start-of : tie.Start Inv-loop μ-loop
+  start-of = l .before .before
+
+  arc-end : l .loop .a < length (start-of .args .arcs .now) / (start-of .args .d + 2) → l .loop .a * (start-of .args .d + 2) + (start-of .args .d + 2) ≤ length (start-of .args .arcs .now)
+  arc-end t = quotient-end (start-of .args .d + 2) (length (start-of .args .arcs .now)) (l .loop .a) t
 
 add-w : tie.Need-add-w Inv-loop μ-loop
 add-w c = search needs
@@ -33,22 +41,13 @@ loop-holds : tie.Need-loop-holds Inv-loop μ-loop
 loop-holds c = (zero-le, λ i l. absurd (not-suc-le-zero l))
 
 mul-at : tie.Need-mul-at Inv-loop μ-loop
-mul-at c =
-    let s = c .before .before .before .args in
-    let h = quotient-end (s .d + 2) (length (s .arcs .now)) (c .before .loop .a) (c .loop-test .taken) in
-    omega arith
+mul-at c = omega (arith, arc-end (c .before) (c .loop-test .taken))
 
 add-end : tie.Need-add-end Inv-loop μ-loop
-add-end c =
-    let s = c .before .before .before .args in
-    let h = quotient-end (s .d + 2) (length (s .arcs .now)) (c .before .loop .a) (c .loop-test .taken) in
-    omega arith
+add-end c = omega (arith, arc-end (c .before) (c .loop-test .taken))
 
 mul-arc-fault : tie.Need-mul-arc-fault Inv-loop μ-loop
-mul-arc-fault c =
-    let s = c .before .before .before .args in
-    let h = quotient-end (s .d + 2) (length (s .arcs .now)) (c .before .loop .a) (c .loop-test .taken) in
-    omega arith
+mul-arc-fault c = omega (arith, arc-end (c .before) (c .loop-test .taken))
 
 sub-arc-fault : tie.Need-sub-arc-fault Inv-loop μ-loop
 sub-arc-fault c = search needs
@@ -57,18 +56,16 @@ part-arc-fault-start : tie.Need-part-arc-fault-start Inv-loop μ-loop
 part-arc-fault-start c = search needs
 
 part-arc-fault-end : tie.Need-part-arc-fault-end Inv-loop μ-loop
-part-arc-fault-end c =
-    let s = c .before .before .before .args in
-    let h = quotient-end (s .d + 2) (length (s .arcs .now)) (c .before .loop .a) (c .loop-test .taken) in
-    omega arith
+part-arc-fault-end c = omega (arith, arc-end (c .before) (c .loop-test .taken))
 
 arc-fault-requires : tie.Need-arc-fault-requires Inv-loop μ-loop
 arc-fault-requires c κs =
-    let s = c .before .before .before .before .args in
-    let a = c .before .before .loop .a in
-    let h = quotient-end (s .d + 2) (length (s .arcs .now)) a (c .before .loop-test .taken) in
-    let e : a * (s .d + 2) + (s .d + 2) - a * (s .d + 2) ≡ s .d + 2 = omega arith in
-    length-part (s .arcs .now) (a * (s .d + 2)) (a * (s .d + 2) + (s .d + 2) - a * (s .d + 2)) (omega arith) ∙ e
+    let l = c .before .before in
+    let w = start-of l .args .d + 2 in
+    let at = l .loop .a * w in
+    let h = arc-end l (c .before .loop-test .taken) in
+    let e : at + w - at ≡ w = omega arith in
+    length-part (start-of l .args .arcs .now) at (at + w - at) (omega arith) ∙ e
 
 cast-refuse : tie.Need-cast-refuse Inv-loop μ-loop
 cast-refuse c = search needs

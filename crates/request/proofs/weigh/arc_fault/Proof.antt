@@ -3,8 +3,8 @@ use mathlib.Core.Path.{sym, _∙_}
 use Rattle.words.proofs.Choices.{true-is, false-is}
 use Rattle.request.proofs.Branches.{fault-tail, fault-head, fault-cost, fault-none}
 use borrow.Author.Needs.{needs}
-use Rattle.request.proofs.arc_fault.Statement.{statement}
-use Rattle.request.proofs.arc_fault.Tie as tie
+use Rattle.request.proofs.weigh.arc_fault.Statement.{statement}
+use Rattle.request.proofs.weigh.arc_fault.Tie as tie
 
 shared-slice-read-if1 : tie.Need-shared-slice-read-if1
 shared-slice-read-if1 c = search needs
@@ -25,7 +25,9 @@ returns-3 : tie.Need-returns-3
 returns-3 c = let a = c .before .before .before .before .before .before .before .args in sym (fault-cost (a .n) (a .d) (a .arc .now) (true-is (sym (c .before .cost-over .ensures) ∙ c .if3 .taken)))
 
 returns-4 : tie.Need-returns-4
-returns-4 c = let a = c .before .before .before .before .before .before .before .args in sym (fault-none (a .n) (a .d) (a .arc .now) (c .before .before .before .before .if1 .left) (c .before .before .if2 .left) (false-is (sym (c .before .cost-over .ensures) ∙ c .if3 .left)))
+returns-4 c =
+    let a = c .before .before .before .before .before .before .before .args in
+    sym (fault-none (a .n) (a .d) (a .arc .now) (c .before .before .before .before .if1 .left) (c .before .before .if2 .left) (false-is (sym (c .before .cost-over .ensures) ∙ c .if3 .left)))
 
 pub arc-fault-spec : {M : Type 1} → statement M
 arc-fault-spec =
