@@ -2,13 +2,14 @@
 use Prim.Native.Nat.{ℕ, _+_, _*_, _≤_, _<_}
 use mathlib.Core.Path.{_≡_, refl, sym, ap, _∙_, subst}
 use mathlib.Core.List.{List, [], _∷_}
+use mathlib.Core.Logic.{_⊎_, inl, inr}
 use native.Mathlib.Omega.{arith}
 use lib.ListN.{length, getD}
-use lib.Dec.{T}
+use lib.Dec.{T, T-not}
 use Rattle.words.specs.Pieces.{part, at, write}
 use Rattle.words.specs.Radix.{volume}
-use Rattle.words.specs.Rows.{Weighed, clear, refused, weigh, settle}
-use Rattle.words.proofs.Rows.{decides-refused, none-clear}
+use Rattle.words.specs.Rows.{Row, row, Decides, NoneHolds, Weighed, clear, refused, weigh, settle}
+use Rattle.words.proofs.Rows.{decides-refused, none-clear, clear-none, refused-decides}
 use Rattle.fences.specs.Fence.{bits, ceil}
 use Rattle.fences.proofs.Growth.{buckets-le}
 use Rattle.request.specs.declared.Request.{Request}
@@ -38,7 +39,7 @@ use Rattle.route.specs.Walked.{Fronts}
 use Rattle.route.proofs.Promises.{decides-ending, none-route, route-walks, table-route, table-walks}
 use Rattle.route.proofs.Tables.{build-fronts}
 use Rattle.listing.specs.List as call
-use Rattle.demands.specs.Demands.{Demand1, Demand2, Demand3, AnyRoute}
+use Rattle.demands.specs.Demands.{Demand1, Demand2, Demand3, EveryBuild, AnyRoute}
 
 -- the bucket counts of a request
 buckets-bound : (R : Req) → Regular R → (j : ℕ) → j < R .graded → 0 < ratioP R j → buckets R j ≤ 1 + bits (top R j) * ceil (ratioQ R j) (ratioP R j)
@@ -59,9 +60,16 @@ accepted R buffer labels t e = go (weigh (buildRows R (length buffer) (length la
         let a : built.Tries t ≡ built.Refused (record { number = n; place = p }) = sym e ∙ ap (λ (z : Weighed). answer z (tries R (R .hops))) q in
         let z : _≡_ {A = ℕ} 0 1 = cc in absurd (omega arith)
 
+-- of any refusal rows one decides or none holds
+one-or-none : (rs : List Row) (w : Weighed) → weigh rs ≡ w → ((k : ℕ) × Decides rs k) ⊎ NoneHolds rs
+one-or-none rs clear e = inr (clear-none rs e)
+one-or-none rs (refused n p) e = let r = refused-decides rs n p e in inl (r .0, r .1)
+
 pub demand1 : Demand1
-unfolding readSays arcsAfter writeSays sheetAfter routeAfter call.listedOf call.listingAfter
+unfolding NoneHolds readSays arcsAfter writeSays sheetAfter routeAfter call.listedOf call.listingAfter
 demand1 = record {
+  decided = λ rs. one-or-none rs (weigh rs) refl;
+  not-both = λ rs k d h. T-not (row rs k .holds) (h k (d .inside)) (d .held);
   build-refused = λ q arcs buffer labels k d.
       let R = asked q arcs in
       let r = refused-all R buffer labels _ _ (decides-refused (buildRows R (length buffer) (length labels)) k d) in
@@ -169,6 +177,9 @@ module _ (q : Request) (arcs buffer labels : List ℕ) (t : ℕ) (e : builtOf (a
     buckets-most = λ j l p. buckets-bound R ok j l p;
     costs-most = λ i v c hi hv hc u j. rw (ap (λ (l : List ℕ). getD (costs R l) j 0) (label-is i v c hi hv hc)) (layer-costs R ok i v c hv hc (full-is i v c hi hv hc u) j);
   }
+
+pub every-build : EveryBuild
+every-build q arcs buffer labels t e = demand3 q arcs buffer labels t e
 
 pub any-route : AnyRoute
 any-route q arcs labels buffer i v c n e = route-walks (asked q arcs) labels buffer i v c n e

@@ -2,11 +2,12 @@
 use Prim.Native.Nat.{ℕ, _+_, _-_, _*_, _≤_, _<_}
 use mathlib.Core.Path.{_≡_}
 use mathlib.Core.List.{List, [], _∷_}
+use mathlib.Core.Logic.{_⊎_}
 use lib.ListN.{length, getD}
 use lib.Dec.{T}
 use Rattle.words.specs.Loops.{upTo}
 use Rattle.words.specs.Pieces.{part, write}
-use Rattle.words.specs.Rows.{row, Decides, NoneHolds}
+use Rattle.words.specs.Rows.{Row, row, Decides, NoneHolds}
 use Rattle.fences.specs.Fence.{bits, ceil}
 use Rattle.request.specs.declared.Request.{Request}
 use Rattle.request.specs.Request.{Req, asked, width, arcCount, ratioP, ratioQ}
@@ -31,6 +32,10 @@ use Rattle.table.specs.declared.Built.the-variants as built
 -- "Any sheet, request, table or asked place gets its answer or the first refusal that applies in document 01's order; no caller has to check
 -- first. A refused call leaves the lent buffers just as they came."
 pub record Demand1 : Type 0 where
+  -- of any refusal rows one decides or none holds, and not both: so each refusal below is given when its row holds and none before it, "and not
+  -- otherwise"
+  pub decided : (rs : List Row) → ((k : ℕ) × Decides rs k) ⊎ NoneHolds rs
+  pub not-both : (rs : List Row) (k : ℕ) → Decides rs k → NoneHolds rs → ⊥
   -- the build: row k is the answer when it holds and none before it does, and both buffers stay
   pub build-refused : (q : Request) (arcs buffer labels : List ℕ) (k : ℕ) → Decides (buildRows (asked q arcs) (length buffer) (length labels)) k
       → (builtOf (asked q arcs) (length buffer) (length labels)
@@ -56,7 +61,7 @@ pub record Demand1 : Type 0 where
       × (routeAfter (asked q arcs) labels buffer i v c ≡ buffer)
   pub back-accepted : (q : Request) (arcs labels : List ℕ) (room i v c : ℕ) → NoneHolds (backRows (asked q arcs) labels room i v c)
       → endingOf (asked q arcs) labels room i v c ≡ ending.Route (length (arcsOf (chain (asked q arcs) labels i v c)))
-  -- the C call
+  -- the lister's call, from a sheet's bytes to its listing's
   pub list-refused : (s bytes : List ℕ) (k : ℕ) → Decides (listRows s (length bytes)) k
       → (listedOf s (length bytes) ≡ listed.Refused (record { number = row (listRows s (length bytes)) k .number; place = row (listRows s (length bytes)) k .place }))
       × (listingAfter s bytes ≡ bytes)
@@ -110,6 +115,10 @@ pub record Demand3 (q : Request) (arcs buffer labels : List ℕ) (t : ℕ) : Typ
   -- what keeps every cost within its ladder
   pub costs-most : (i v c : ℕ) → i ≤ q .hops → v < q .nodes → c < cells (asked q arcs) → T (filled (asked q arcs) (labelIn (asked q arcs) (labelsAfter (asked q arcs) (length buffer) labels) i v c))
       → (j : ℕ) → getD (costs (asked q arcs) (labelIn (asked q arcs) (labelsAfter (asked q arcs) (length buffer) labels) i v c)) j 0 ≤ i * largest (asked q arcs) j
+
+-- of every build that answers tries
+abbrev pub EveryBuild : Type 0
+EveryBuild = (q : Request) (arcs buffer labels : List ℕ) (t : ℕ) → builtOf (asked q arcs) (length buffer) (length labels) ≡ built.Tries t → Demand3 q arcs buffer labels t
 
 -- and of any words for a table: a route that is answered is a walk from the source to the asked camp, with exactly the answered sums
 abbrev pub AnyRoute : Type 0

@@ -5,11 +5,15 @@ use mathlib.Core.Bool.{cond}
 use mathlib.Core.List.{List, [], _∷_, _++_, map}
 use lib.ListN.{drop}
 use Rattle.words.specs.Loops.{upTo}
+use Rattle.words.specs.Rows.{clear, weigh}
 use Rattle.fences.specs.Fence.{fences, position}
 use Rattle.request.specs.Request.{Req, asked}
 use Rattle.request.specs.Shape.{top, buckets, cells}
+use Rattle.request.specs.Rows.{rows}
 use Rattle.rounds.specs.Label.{costs, filled}
 use Rattle.rounds.specs.Rounds.{labelAt, tries}
+use Rattle.listing.specs.List.{asks}
+use Rattle.listing.specs.Example.{input}
 
 -- "The sheet above", with K hops and a ratio p over q
 unfoldable pub sheet : ℕ → ℕ → ℕ → Req
@@ -28,7 +32,13 @@ equal = asked (record { nodes = 2; criteria = 2; source = 0; hops = 1; ratios = 
 unfoldable pub held : Req → ℕ → ℕ → List (List ℕ)
 held R i v = upTo (λ c r. r ++ cond (filled R (labelAt R i v c)) ((c ∷ costs R (labelAt R i v c)) ∷ []) []) [] (cells R)
 
+-- "1 to 10": each number below the words that it stands in
 pub record HandNumbers : Type 0 where
+  -- "The sheet above" is the printed one, and each request here is accepted
+  pub above : asks input ≡ sheet 2 1 1
+  pub accepted :
+      (weigh (rows (sheet 2 1 1)) ≡ clear) × (weigh (rows (sheet 2 0 1)) ≡ clear) × (weigh (rows (sheet 0 1 1)) ≡ clear)
+      × (weigh (rows loop) ≡ clear) × (weigh (rows equal) ≡ clear)
   -- 1. "Ratio 1/2: 0, 1, 2, 4, 7, 11, 17, 26, 40."
   pub one : fences 1 2 9 ≡ 0 ∷ 1 ∷ 2 ∷ 4 ∷ 7 ∷ 11 ∷ 17 ∷ 26 ∷ 40 ∷ []
   -- 2. "Ratio 1/1: 0, 1, 3, 7, 15, 31. Ratio 0/1: 0, 1, 2, 3."

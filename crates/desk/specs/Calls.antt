@@ -24,6 +24,7 @@ requestFrom w =
       ratios = getD w 4 0 ∷ getD w 5 0 ∷ getD w 6 0 ∷ getD w 7 0 ∷ [];
     }
 
+-- and the words of a request
 unfoldable pub requestWords : Request → List ℕ
 requestWords r =
     r .nodes ∷ r .criteria ∷ r .source ∷ r .hops ∷ getD (r .ratios) 0 0 ∷ getD (r .ratios) 1 0 ∷ getD (r .ratios) 2 0 ∷ getD (r .ratios) 3 0 ∷ []

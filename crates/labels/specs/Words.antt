@@ -17,6 +17,7 @@ winsOver d l old = not (ltb 0 (getD old d 0)) || lower d (take d l) (take d old)
 
 -- ---- what the functions ask and find
 
+-- what `add_costs` asks: three labels' or arcs' words, and sums that fit
 pub record Adds (d : ℕ) (out lab arc : List ℕ) : Type 0 where
   pub out-long : length out ≡ d + 2
   pub lab-long : length lab ≡ d + 2
@@ -31,6 +32,7 @@ offset counts j = total (λ i. getD counts i 0 + 1) j
 unfoldable pub ladderIn : List ℕ → List ℕ → ℕ → List ℕ
 ladderIn counts ladders j = part ladders (offset counts j) (getD counts j 0 + 1)
 
+-- what `find_cell` asks: each cost lies within its ladder, and there is a place in it to look from
 pub record Seeks (counts : List ℕ) (graded : ℕ) (ladders cand hint : List ℕ) : Type 0 where
   pub few : graded ≤ 2
   pub two : length hint ≡ 2

@@ -2,7 +2,8 @@
 use Prim.Native.Nat.{ℕ}
 use mathlib.Core.Path.{_≡_}
 use mathlib.Core.List.{List, [], _∷_}
-use Rattle.listing.specs.List.{asks, listingOf}
+use Rattle.listing.specs.List.{asks, listingOf, listedOf}
+use Rattle.listing.specs.declared.Listed.the-variants as listed
 
 -- "Input", a line of the sheet to a line here
 unfoldable pub input : List ℕ
@@ -26,6 +27,6 @@ output =
     ∷ 108 ∷ 97 ∷ 98 ∷ 101 ∷ 108 ∷ 9 ∷ 51 ∷ 9 ∷ 56 ∷ 9 ∷ 53 ∷ 9 ∷ 50 ∷ 9 ∷ 49 ∷ 9 ∷ 51 ∷ 10
     ∷ []
 
--- the input's listing is the output
+-- the input's listing is the output, and it is what is answered into a buffer of just its 74 bytes
 abbrev pub PrintedExample : Type 0
-PrintedExample = listingOf (asks input) ≡ output
+PrintedExample = (listingOf (asks input) ≡ output) × (listedOf input 74 ≡ listed.Bytes 74)

@@ -47,6 +47,7 @@ answer (refused n p) k = listed.Refused (record { number = n; place = p })
 unfoldable pub requestListed : Req → ℕ → Listed
 requestListed R room = answer (weigh (requestRows R room)) (length (listingOf R))
 
+-- and the bytes afterwards
 unfoldable pub requestAfter : Req → List ℕ → List ℕ
 requestAfter R bytes = settle (weigh (requestRows R (length bytes))) (write bytes 0 (listingOf R)) bytes
 

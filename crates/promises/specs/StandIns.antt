@@ -16,10 +16,11 @@ use Rattle.table.specs.declared.Built.{Built}
 use Rattle.table.specs.declared.Built.the-variants as built
 use Rattle.table.proofs.build
 
--- the printed example with k hops, and its arcs
+-- the printed example with k hops
 unfoldable pub example : ℕ → Request
 example k = record { nodes = 4; criteria = 2; source = 0; hops = k; ratios = 1 ∷ 1 ∷ 0 ∷ 1 ∷ [] }
 
+-- its arcs
 unfoldable pub tracks : List ℕ
 tracks = 0 ∷ 1 ∷ 4 ∷ 5 ∷ 0 ∷ 1 ∷ 6 ∷ 3 ∷ 0 ∷ 2 ∷ 1 ∷ 9 ∷ 1 ∷ 3 ∷ 2 ∷ 2 ∷ 2 ∷ 3 ∷ 6 ∷ 1 ∷ []
 
@@ -35,13 +36,15 @@ pub record Call (k : ℕ) : Type 0 where
   pub left : Lasts (endedOf 3 build.Kinds.ps build.Kinds.r) lifetimes args
   pub allowed : build.Reads.Learnt lifetimes args answer (atExit (endedOf 3 build.Kinds.ps build.Kinds.r) lifetimes args left)
 
--- the words that it leaves in the two buffers
+-- the words that it leaves in the ladder buffer
 abbrev pub laddersLeft : {k : ℕ} → Call k → List ℕ
 laddersLeft c = c .left .1 .1 .0
 
+-- and in the label buffer
 abbrev pub labelsLeft : {k : ℕ} → Call k → List ℕ
 labelsLeft c = c .left .1 .1 .1 .0
 
+-- no answer that the promise allows is a stand-in's
 pub record ShutOut : Type 0 where
   -- "refusing every request (demand 1, refusals only when listed)"
   pub refusing : (c : Call 2) (r : Refusal) → c .answer ≡ built.Refused r → ⊥

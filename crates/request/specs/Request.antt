@@ -39,10 +39,11 @@ asked q arcs = record {
   rule = lower (q .criteria);
 }
 
--- p and q of criterion j, from 0
+-- p of criterion j, from 0
 unfoldable pub ratioP : Req → ℕ → ℕ
 ratioP R j = getD (R .ratios) (j * 2) 0
 
+-- and its q
 unfoldable pub ratioQ : Req → ℕ → ℕ
 ratioQ R j = getD (R .ratios) (j * 2 + 1) 0
 
@@ -54,16 +55,19 @@ width R = R .criteria + 2
 unfoldable pub arcCount : Req → ℕ
 arcCount R = length (R .arcs) / width R
 
--- the words of arc a, from 0, its tail, its head and its costs
+-- the words of arc a, from 0
 unfoldable pub arc : Req → ℕ → List ℕ
 arc R a = at (width R) (R .arcs) a
 
+-- its tail
 unfoldable pub tail : Req → ℕ → ℕ
 tail R a = getD (arc R a) 0 0
 
+-- its head
 unfoldable pub head : Req → ℕ → ℕ
 head R a = getD (arc R a) 1 0
 
+-- its costs
 unfoldable pub arcCosts : Req → ℕ → List ℕ
 arcCosts R a = drop 2 (arc R a)
 

@@ -14,6 +14,7 @@ use Rattle.request.specs.Request.{Req, width, arcCount, ratioP, ratioQ, 
 unfoldable pub largestOf : ℕ → List ℕ → ℕ → ℕ → ℕ
 largestOf w arcs m j = upTo (λ a x. max x (getD (at w arcs a) (j + 2) 0)) 0 m
 
+-- "its largest arc cost": of criterion j among all arcs
 unfoldable pub largest : Req → ℕ → ℕ
 largest R j = largestOf (width R) (R .arcs) (arcCount R) j
 

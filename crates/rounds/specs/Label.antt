@@ -10,12 +10,15 @@ use Rattle.request.specs.Request.{Req, width, arcCosts}
 abbrev pub label : List ℕ → ℕ → ℕ → List ℕ
 label xs s f = xs ++ s ∷ f ∷ []
 
+-- its costs, one for each criterion
 unfoldable pub costs : Req → List ℕ → List ℕ
 costs R l = take (R .criteria) l
 
+-- its step word
 unfoldable pub step : Req → List ℕ → ℕ
 step R l = getD l (R .criteria) 0
 
+-- its from word
 unfoldable pub from : Req → List ℕ → ℕ
 from R l = getD l (R .criteria + 1) 0
 

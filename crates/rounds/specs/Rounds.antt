@@ -28,6 +28,7 @@ blank R = replicate (span R) 0
 unfoldable pub startBlock : Req → ℕ → List ℕ
 startBlock R v = let r = put (width R) (blank R) 0 (start R) in cond (eqb v (R .source)) r (blank R)
 
+-- layer 0: N such blocks
 unfoldable pub startLayer : Req → List ℕ
 startLayer R = join (startBlock R) (R .nodes)
 
@@ -37,9 +38,11 @@ startLayer R = join (startBlock R) (R .nodes)
 unfoldable pub keepCell : Req → List ℕ → List ℕ
 keepCell R l = cond (filled R l) (kept R l) (empty R)
 
+-- so in a node's block, cell by cell
 unfoldable pub keepBlock : Req → List ℕ → List ℕ
 keepBlock R F = join (λ c. keepCell R (at (width R) F c)) (cells R)
 
+-- so in a layer, node by node
 unfoldable pub keepAll : Req → List ℕ → List ℕ
 keepAll R L = join (λ v. keepBlock R (block R L v)) (R .nodes)
 
@@ -75,15 +78,17 @@ layer R (suc i) = round R (layer R i)
 unfoldable pub table : Req → List ℕ
 table R = join (layer R) (R .hops + 1)
 
--- the label of node v, cell c in a layer's words, and in layer i
+-- the label of node v, cell c in a layer's words
 unfoldable pub labelOf : Req → List ℕ → ℕ → ℕ → List ℕ
 labelOf R L v c = at (width R) (block R L v) c
 
+-- and in layer i
 unfoldable pub labelAt : Req → ℕ → ℕ → ℕ → List ℕ
 labelAt R i v c = labelOf R (layer R i) v c
 
 -- ---- tries, counted apart: each filled cell of an arc's tail "is one try"
 
+-- a test as a count: 1 or 0
 abbrev pub bit : Bool → ℕ
 bit true = 1
 bit false = 0

@@ -14,11 +14,12 @@ use Rattle.route.specs.Chain.{labelIn, Chain, whole, broken, chain}
 use Rattle.route.specs.declared.Ending.{Ending}
 use Rattle.route.specs.declared.Ending.the-variants as ending
 
--- whether a chain breaks, and in which layer
+-- whether a chain breaks
 abbrev pub breaks : Chain → Bool
 breaks (whole ws) = false
 breaks (broken i) = true
 
+-- and in which layer
 abbrev pub breakLayer : Chain → ℕ
 breakLayer (whole ws) = 0
 breakLayer (broken i) = i
@@ -48,6 +49,7 @@ abbrev pub ended : Weighed → ℕ → Ending
 ended clear n = ending.Route n
 ended (refused n p) k = refusal n p
 
+-- "A read-back ends in one of three ways": by the first row of its table that holds, or in a route
 unfoldable pub endingOf : Req → List ℕ → ℕ → ℕ → ℕ → ℕ → Ending
 endingOf R W room i v c = ended (weigh (backRows R W room i v c)) (length (arcsOf (chain R W i v c)))
 

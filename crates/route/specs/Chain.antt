@@ -39,12 +39,12 @@ startHolds R i l v c = eqb (step R l) 1 && eqb i 0 && eqb v (R .source) && eqb c
 unfoldable pub agrees : Req → List ℕ → List ℕ → List ℕ → Bool
 agrees R xs reached ys = not (filled R reached) || same xs ys
 
--- "A kept label needs a layer before, from 0 and the same costs there"
+-- "A kept label needs a layer before, from 0 and the same costs there": as far as it is its own fault
 unfoldable pub keptHolds : Req → ℕ → List ℕ → List ℕ → Bool
 keptHolds R i l reached = eqb (step R l) 2 && ltb 0 i && eqb (from R l) 0 && agrees R (costs R l) reached (costs R reached)
 
 -- "An arc label needs a layer before, an arc below M with this head, a from below C, and costs equal to the earlier label's plus the arc's,
--- summed without wrap"
+-- summed without wrap": as far as it is its own fault
 unfoldable pub arcHolds : Req → ℕ → List ℕ → ℕ → ℕ → List ℕ → Bool
 arcHolds R i l v a reached =
     leb 3 (step R l) && ltb 0 i && ltb a (arcCount R) && eqb (head R a) v && ltb (from R l) (cells R)

@@ -16,7 +16,7 @@ use Rattle.text.specs.Fault.{Begins}
 use Rattle.sheet.specs.Grammar.{lf, tab, askWord, tracksLine, Kind, anArc, anAsk, neither, kindOf, Contents, whole, broken, addArc, atEnd, judge, linesFrom, afterFirst, sheetOf}
 use Rattle.sheet.specs.Rendering.{sheetText}
 use Rattle.sheet.specs.Reader.{isBroken}
-use Rattle.sheet.specs.FirstBad.{Accepted, ends, WholeLines, FirstBadLine}
+use Rattle.sheet.specs.FirstBad.{Accepted, ends, WholeLines, GoodUpTo, FirstBadLine}
 use Rattle.sheet.proofs.Scan.{lines-loose}
 use Rattle.sheet.proofs.First.{sheet-loose}
 use Rattle.sheet.proofs.Cuts.{cut-whole, lines-cut, sheet-cut}
@@ -222,7 +222,7 @@ first-decides (good (n ∷ (d ∷ vs))) = go (eqb d 2 || eqb d 3)
     go false = inl (λ y. refl)
 
 -- a sheet whose first line is bad
-first-is-bad : (s : List ℕ) → ((line after t : List ℕ) → before lf line ≡ line → s ≡ line ++ (lf ∷ after) → sheetOf (line ++ (lf ∷ t)) ≡ broken 1) → FirstBadLine s 1
+first-is-bad : (s : List ℕ) → ((line after t : List ℕ) → before lf line ≡ line → s ≡ line ++ (lf ∷ after) → sheetOf (line ++ (lf ∷ t)) ≡ broken 1) → GoodUpTo s 1
 unfolding ends
 first-is-bad s h =
     record {
@@ -236,10 +236,10 @@ first-is-bad s h =
     }
 
 -- and so is line l, where no sheet that begins with it is accepted
-bad-whatever : (l x : List ℕ) (k : ℕ) → before lf l ≡ l → ((y : List ℕ) → sheetOf (l ++ (lf ∷ y)) ≡ broken 1) → broken 1 ≡ broken k → FirstBadLine (l ++ (lf ∷ x)) k
+bad-whatever : (l x : List ℕ) (k : ℕ) → before lf l ≡ l → ((y : List ℕ) → sheetOf (l ++ (lf ∷ y)) ≡ broken 1) → broken 1 ≡ broken k → GoodUpTo (l ++ (lf ∷ x)) k
 bad-whatever l x k p c e =
     let q : 1 ≡ k = cc in
-    subst (FirstBadLine (l ++ (lf ∷ x))) q
+    subst (GoodUpTo (l ++ (lf ∷ x))) q
     (first-is-bad (l ++ (lf ∷ x))
     (λ line after t u g.
     let same : l ≡ line = sym (cut-whole l x p) ∙ same-line (l ++ (lf ∷ x)) line after u g in
@@ -247,7 +247,7 @@ bad-whatever l x k p c e =
 
 -- a sheet whose first line l is good, so that the lines x after it decide
 later-is-bad : (n d : ℕ) (l x : List ℕ) (k : ℕ) → before lf l ≡ l → ((y : List ℕ) → sheetOf (l ++ (lf ∷ y)) ≡ linesFrom n d 0 2 [] y) → BadFrom n d 0 2 x k
-    → FirstBadLine (l ++ (lf ∷ x)) k
+    → GoodUpTo (l ++ (lf ∷ x)) k
 later-is-bad n d l x k p q b =
     record {
       front = l ++ (lf ∷ b .front);
@@ -268,23 +268,27 @@ later-is-bad n d l x k p q b =
         let h = ap isBroken (ap sheetOf (parts-of line t) ∙ q (b .front ++ (line ++ (lf ∷ t))) ∙ b .bad-here line after t e f) in
         false≢true (sym g ∙ h)
 
--- THE PLACE OF REFUSAL 1 IS THE FIRST BAD LINE
-pub first-bad-line : (s : List ℕ) (k : ℕ) → sheetOf s ≡ broken k → FirstBadLine s k
-first-bad-line s k e = ⊎-elim line loose (lt-or-le (length (before lf s)) (length s))
+-- up to the place of refusal 1 the sheet is good
+good-up-to : (s : List ℕ) (k : ℕ) → sheetOf s ≡ broken k → GoodUpTo s k
+good-up-to s k e = ⊎-elim line loose (lt-or-le (length (before lf s)) (length s))
   where
-    loose : length s ≤ length (before lf s) → FirstBadLine s k
+    loose : length s ≤ length (before lf s) → GoodUpTo s k
     loose u =
         let f = sym (sheet-loose s (before lf s) refl u) ∙ e in
         let q : 1 ≡ k = cc in
-        subst (FirstBadLine s) q (first-is-bad s (λ l after t p g. absurd (no-line s l after u p g)))
+        subst (GoodUpTo s) q (first-is-bad s (λ l after t p g. absurd (no-line s l after u p g)))
 
-    line : length (before lf s) < length s → FirstBadLine s k
+    line : length (before lf s) < length s → GoodUpTo s k
     line r =
         let l = before lf s in
         let x = drop (suc (length l)) s in
         let f : s ≡ l ++ (lf ∷ x) = before-found lf s r in
         let c : (y : List ℕ) → sheetOf (l ++ (lf ∷ y)) ≡ afterFirst (tracksLine l) y = λ y. sheet-cut l y (cut-whole l y (cut-plain s)) in
         let u : afterFirst (tracksLine l) x ≡ broken k = sym (c x) ∙ ap sheetOf (sym f) ∙ e in
-        subst (λ (y : List ℕ). FirstBadLine y k) (sym f)
+        subst (λ (y : List ℕ). GoodUpTo y k) (sym f)
         (⊎-elim (λ b. bad-whatever l x k (cut-plain s) (λ y. c y ∙ b y) (sym (b x) ∙ u)) (λ b. later-is-bad (b .0) (b .1) l x k (cut-plain s) (λ y. c y ∙ b .2 y) (bad-from (length x) (b .0) (b .1) 0 2 x k (omega arith) (sym (b .2 x) ∙ u)))
         (first-decides (tracksLine l)))
+
+-- THE PLACE OF REFUSAL 1 IS THE FIRST BAD LINE
+pub first-bad-line : (s : List ℕ) (k : ℕ) → sheetOf s ≡ broken k → FirstBadLine s k
+first-bad-line s k e = record { bad = λ h. absurd (false≢true (sym h ∙ ap isBroken e)); first = good-up-to s k e }

@@ -23,9 +23,9 @@ ends (c ∷ cs) = cond (eqb c lf) (suc (ends cs)) (ends cs)
 abbrev pub WholeLines : List ℕ → Type 0
 WholeLines p = (p ≡ []) ⊎ ((q : List ℕ) × (p ≡ q ++ (lf ∷ [])))
 
--- line k is the first bad one: an accepted sheet begins with the lines before it; and where it has its LF, no accepted sheet begins with the
+-- up to line k the sheet is good: an accepted sheet begins with the lines before it; and where it has its LF, no accepted sheet begins with the
 -- lines up to it. (Without its LF it is bad as it stands; where nothing stands there, the sheet ends before `ask`.)
-pub record FirstBadLine (s : List ℕ) (k : ℕ) : Type 0 where
+pub record GoodUpTo (s : List ℕ) (k : ℕ) : Type 0 where
   pub front : List ℕ
   pub rest : List ℕ
   pub parts : s ≡ front ++ rest
@@ -33,3 +33,8 @@ pub record FirstBadLine (s : List ℕ) (k : ℕ) : Type 0 where
   pub place : k ≡ ends front + 1
   pub good-before : Begins Accepted front
   pub bad-here : (line after : List ℕ) → before lf line ≡ line → rest ≡ line ++ (lf ∷ after) → Begins Accepted (front ++ (line ++ (lf ∷ []))) → ⊥
+
+-- line k of a sheet is its first bad one
+pub record FirstBadLine (s : List ℕ) (k : ℕ) : Type 0 where
+  pub bad : Accepted s → ⊥
+  pub first : GoodUpTo s k

@@ -33,6 +33,7 @@ abbrev pub answer : Weighed → ℕ → Built
 answer clear n = built.Tries n
 answer (refused n p) t = built.Refused (record { number = n; place = p })
 
+-- the answer of a request with two buffers of so many words: by the first row that holds, or the sum of all tries
 unfoldable pub builtOf : Req → ℕ → ℕ → Built
 builtOf R ladderRoom labelRoom = answer (weigh (buildRows R ladderRoom labelRoom)) (tries R (R .hops))
 
