@@ -17,7 +17,7 @@ use Rattle.sheet.proofs.Clear.{writable}
 use Rattle.sheet.proofs.FirstBad.{first-bad-line}
 use Rattle.listing.proofs.Rooms.{words-few}
 use Rattle.desk.specs.Packed.{Answer}
-use Rattle.desk.proofs.Sound.{Sound, sound-listed, sound-more, table-answer, refusal-said}
+use Rattle.desk.proofs.Sound.{Sound, sound-listed, sound-more, table-answer, refusal-said, small-room}
 
 -- ---- the reader
 
@@ -41,7 +41,7 @@ bad-line-le s = go (sheetOf s) refl
 
 pub form-sound : (s : List ℕ) → Sound (formRows s)
 form-sound s = (
-  λ _. record { some = omega arith; few = omega arith; near = omega arith },
+  λ _. small-room 12 0 tt,
   λ short. (
     (λ _. record { some = omega arith; few = omega arith; near = omega (arith, bad-line-le s, nltb→le 8192 (length s) short) }),
     (λ _. tt),
