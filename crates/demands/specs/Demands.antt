@@ -6,11 +6,11 @@ use mathlib.Core.Logic.{_⊎_}
 use lib.ListN.{length, getD}
 use lib.Dec.{T}
 use Rattle.words.specs.Loops.{upTo}
-use Rattle.words.specs.Pieces.{part, write}
+use Rattle.words.specs.Pieces.{write}
 use Rattle.words.specs.Rows.{Row, row, Decides, NoneHolds}
 use Rattle.fences.specs.Fence.{bits, ceil}
 use Rattle.request.specs.declared.Request.{Request}
-use Rattle.request.specs.Request.{Req, asked, width, arcCount, ratioP, ratioQ}
+use Rattle.request.specs.Request.{Req, asked, arcCount, ratioP, ratioQ}
 use Rattle.request.specs.Shape.{top, buckets, cells, ladders, largest}
 use Rattle.rounds.specs.Label.{costs, filled}
 use Rattle.rounds.specs.Rounds.{table, tries}

@@ -17,7 +17,7 @@ use Rattle.sheet.proofs.Clear.{writable}
 use Rattle.sheet.proofs.FirstBad.{first-bad-line}
 use Rattle.listing.proofs.Rooms.{words-few}
 use Rattle.desk.specs.Packed.{Answer}
-use Rattle.desk.proofs.Sound.{Sound, sound-listed, sound-more, table-answer, refusal-said}
+use Rattle.desk.proofs.Sound.{Sound, sound-listed, sound-more, table-answer, refusal-said, small-room}
 
 -- ---- the reader
 
@@ -34,14 +34,14 @@ bad-line-le s = go (sheetOf s) refl
     go : (p : Contents) → sheetOf s ≡ p → badLine p ≤ length s + 1
     go (whole n d m words asks) e = omega arith
     go (broken k) e =
-        let b = first-bad-line s k e in
+        let b = first-bad-line s k e .first in
         let h = ends-le (b .front) in
         let l = length-append (b .front) (b .rest) in
         omega (arith, ap length (b .parts), b .place)
 
 pub form-sound : (s : List ℕ) → Sound (formRows s)
 form-sound s = (
-  λ _. record { some = omega arith; few = omega arith; near = omega arith },
+  λ _. small-room 12 0 tt,
   λ short. (
     (λ _. record { some = omega arith; few = omega arith; near = omega (arith, bad-line-le s, nltb→le 8192 (length s) short) }),
     (λ _. tt),

@@ -21,7 +21,7 @@ use Rattle.table.specs.Build.{buildRows, answer, builtOf}
 use Rattle.listing.proofs.Rooms.{tries-few}
 use Rattle.desk.specs.Packed.{Answer}
 use Rattle.desk.specs.Calls.{builtSaid}
-use Rattle.desk.proofs.Sound.{Room, Sound, sound-append, sound-each, sound-listed, sound-more, table-answer, refusal-said}
+use Rattle.desk.proofs.Sound.{Room, Sound, sound-append, sound-each, sound-listed, sound-more, table-answer, refusal-said, small-room}
 
 -- ---- the rows
 
@@ -35,7 +35,7 @@ ratio-room ratios j h = record { some = omega arith; few = omega arith; near = o
 
 words-room : (words w : ℕ) → Room (arcWordsRow words w .number) (arcWordsRow words w .place)
 unfolding arcWordsRow
-words-room words w = record { some = omega arith; few = omega arith; near = omega arith }
+words-room words w = small-room 7 0 tt
 
 -- an arc at fault has number 8
 fault-room : (n d : ℕ) (w : List ℕ) (a : ℕ) → a < 512 → T (ltb 0 (arcFault n d w)) → Room (arcFault n d w) a
@@ -55,7 +55,7 @@ bucket-room R j h = record { some = omega arith; few = omega arith; near = omega
 
 label-room : (R : Req) → Room (labelRow R .number) (labelRow R .place)
 unfolding labelRow
-label-room R = record { some = omega arith; few = omega arith; near = omega arith }
+label-room R = small-room 10 0 tt
 
 module _ (q : Request) (arcs : List ℕ) where
   abbrev R : Req

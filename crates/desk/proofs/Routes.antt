@@ -22,7 +22,7 @@ use Rattle.route.proofs.Answering.{layer-asked}
 use Rattle.route.proofs.Promises.{cleared}
 use Rattle.desk.specs.Packed.{Answer}
 use Rattle.desk.specs.Calls.{endingSaid}
-use Rattle.desk.proofs.Sound.{Room, Sound, sound-append, table-answer}
+use Rattle.desk.proofs.Sound.{Room, Sound, small-room, sound-append, table-answer}
 use Rattle.desk.proofs.Builds.{rows-sound}
 
 -- ---- the answers
@@ -34,6 +34,7 @@ refusal-answer n p r =
     cond-cases (λ (x : Ending). Answer (endingSaid x)) (eqb n 15) (λ _. (omega arith, omega arith, omega arith)) (λ _. (r .some, r .few, r .near))
 
 module _ (q : Request) (arcs W : List ℕ) (room i v c : ℕ) where
+  -- K of an accepted request
   hops-few : weigh (rows (asked q arcs)) ≡ clear → q .hops ≤ 63
   unfolding Accepted
   hops-few e = accepted-small (asked q arcs) e .hops-few
@@ -47,13 +48,13 @@ module _ (q : Request) (arcs W : List ℕ) (room i v c : ℕ) where
   back-sound =
       sound-append (rows (asked q arcs)) _ (rows-sound q arcs)
       (λ e. (
-        λ _. record { some = omega arith; few = omega arith; near = omega arith },
+        λ _. small-room 13 1 tt,
         λ _. (
-          λ _. record { some = omega arith; few = omega arith; near = omega arith },
+          λ _. small-room 13 2 tt,
           λ _. (
-            λ _. record { some = omega arith; few = omega arith; near = omega arith },
+            λ _. small-room 14 0 tt,
             λ near. (
-              λ _. record { some = omega arith; few = omega arith; near = omega arith },
+              λ _. small-room 15 0 tt,
               λ _. (λ _. record { some = omega arith; few = omega arith; near = break-near e near }, λ _. tt),
             ),
           ),

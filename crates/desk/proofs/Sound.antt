@@ -23,19 +23,27 @@ abbrev pub Sound : List Row → Type 0
 Sound [] = Unit {0}
 Sound (r ∷ rs) = (T (r .holds) → Room (r .number) (r .place)) × (T (not (r .holds)) → Sound rs)
 
--- whether each row's number and place have room, whether it holds or not
+-- whether a number and a place have room
+abbrev pub fitting : ℕ → ℕ → Bool
+fitting number place = ltb 0 number && ltb number 65536 && ltb place 4294967296
+
+-- so of those that are written out it is seen by looking
+pub small-room : (number place : ℕ) → T (fitting number place) → Room number place
+small-room number place t =
+    let p = and-both (ltb 0 number && ltb number 65536) (ltb place 4294967296) t in
+    let q = and-both (ltb 0 number) (ltb number 65536) (p .0) in
+    record { some = ltb→lt 0 number (q .0); few = ltb→lt number 65536 (q .1); near = ltb→lt place 4294967296 (p .1) }
+
+-- and of a table whose numbers and places are all written out, whichever rows hold
 abbrev pub roomy : List Row → Bool
 roomy [] = true
-roomy (r ∷ rs) = ltb 0 (r .number) && ltb (r .number) 65536 && ltb (r .place) 4294967296 && roomy rs
+roomy (r ∷ rs) = fitting (r .number) (r .place) && roomy rs
 
--- so a table whose numbers and places are written out is seen to be sound by looking
 pub sound-listed : (rs : List Row) → T (roomy rs) → Sound rs
 sound-listed [] t = tt
 sound-listed (r ∷ rs) t =
-    let p = and-both (ltb 0 (r .number) && ltb (r .number) 65536 && ltb (r .place) 4294967296) (roomy rs) t in
-    let q = and-both (ltb 0 (r .number) && ltb (r .number) 65536) (ltb (r .place) 4294967296) (p .0) in
-    let u = and-both (ltb 0 (r .number)) (ltb (r .number) 65536) (q .0) in
-    (λ _. record { some = ltb→lt 0 (r .number) (u .0); few = ltb→lt (r .number) 65536 (u .1); near = ltb→lt (r .place) 4294967296 (q .1) }, λ _. sound-listed rs (p .1))
+    let p = and-both (fitting (r .number) (r .place)) (roomy rs) t in
+    (λ _. small-room (r .number) (r .place) (p .0), λ _. sound-listed rs (p .1))
 
 -- so the answer's has
 sound-refused : (rs : List Row) (n p : ℕ) → Sound rs → weigh rs ≡ refused n p → Room n p

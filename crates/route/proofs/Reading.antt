@@ -99,5 +99,6 @@ module _ (q : Request) (arcs : List ℕ) (acc : Accepted (asked q arcs)) (s : Sh
           pub at-beyond : b ≡ true → weigh (backRows (asked q arcs) W room i v c) ≡ refused 14 0
           at-beyond t = beyond-asked R W room i v c acc long-enough roomy-enough (true-is (sym asked-told ∙ t))
 
+          -- none of rows 2 to 14
           pub placed : b ≡ false → Placed (asked q arcs) W room i v c
           placed f = record { accepted = acc; long = long-enough; roomy = roomy-enough; inside = false-is (sym asked-told ∙ f) }

@@ -1,6 +1,6 @@
 -- `judge_labels`: the products fit, and the branch is row 10. Assumes nothing.
 use mathlib.Core.Path.{sym}
-use Prim.Native.Nat.{ℕ, _+_, _*_, _≤_}
+use Prim.Native.Nat.{_+_, _*_, _≤_}
 use native.Mathlib.Nat.{mul-le-mul}
 use Rattle.request.proofs.Counts.{too-many, in-shape}
 use borrow.Author.Needs.{needs}

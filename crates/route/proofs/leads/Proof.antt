@@ -34,9 +34,11 @@ module _ (c : tie.After-start-holds) where
   abbrev own : List ℕ
   own = labelIn R W (start-of .args .i) (start-of .args .v) (start-of .args .c)
 
+  -- it is the one that was looked up
   own-is : c .before .label .result .now ≡ own
   own-is = let a = start-of .args in label-is R W _ (a .cells) (a .i) (a .v) (a .c) (start-of .pre .1 .1) (c .before .label .ensures)
 
+  -- the test told that it is a start, or that it is none
   starts : c .start-holds .result ≡ true → T (startHolds R (start-of .args .i) own (start-of .args .v) (start-of .args .c))
   starts t = let a = start-of .args in told (λ (z : List ℕ). startHolds R (a .i) z (a .v) (a .c)) t (c .start-holds .ensures (a .arcs .now)) own-is
 
@@ -48,6 +50,7 @@ module _ (c : tie.After-kept-holds) where
   abbrev begun : tie.After-start-holds
   begun = c .before .before .before .before
 
+  -- the label of its node and cell in the layer before, as it was looked up
   abbrev old : List ℕ
   old = let a = start-of begun .args in labelIn (R begun) (W begun) (a .i - 1) (a .v) (a .c)
 
@@ -57,6 +60,7 @@ module _ (c : tie.After-kept-holds) where
   was-no-start : T (not (startHolds (R begun) (start-of begun .args .i) (own begun) (start-of begun .args .v) (start-of begun .args .c)))
   was-no-start = no-start begun (c .before .before .before .if1 .left)
 
+  -- the test told that it was kept, or that it was not
   keeps : c .kept-holds .result ≡ true → T (keptHolds (R begun) (start-of begun .args .i) (own begun) old)
   keeps t = let a = start-of begun .args in told-two (keptHolds (R begun) (a .i)) t (c .kept-holds .ensures (a .arcs .now)) (own-is begun) old-is
 
@@ -81,6 +85,7 @@ module _ (c : tie.After-arc-holds) where
   abbrev link-by : Bool → Link
   link-by b = cond b (link.Came (step-of - 3) tail-of from-of) link.Fails
 
+  -- is where the label leads
   link-is : link-by (c .arc-holds .result) ≡ linkOf (R (begun passed)) (W (begun passed)) (start-of (begun passed) .args .i) (start-of (begun passed) .args .v) (start-of (begun passed) .args .c)
   unfolding step from tail arc
   link-is =
@@ -92,6 +97,8 @@ module _ (c : tie.After-arc-holds) where
       (c .before .before .before .word2 .ensures ∙ ap (λ (z : List ℕ). getD z 0 0) (c .before .before .before .before .piece .ensures))
       (c .before .before .word3 .ensures)
       (label-is (R b) (W b) _ (a .cells) (a .i - 1) tail-of from-of (start-of b .pre .1 .1) (c .before .label3 .ensures)) (c .arc-holds .ensures)
+
+-- ---- the needs
 
 cast-d : tie.Need-cast-d
 cast-d c = search needs

@@ -43,6 +43,7 @@ module _ (c : tie.After-beyond) where
   abbrev start-of : tie.Start
   start-of = c .before .before .before .before .before .before .before .before .before
 
+  -- there are not: row 14
   beyond-refused : c .beyond .result ≡ true → weighed start-of ≡ refused 14 0
   beyond-refused t =
       let s = start-of in
@@ -50,6 +51,7 @@ module _ (c : tie.After-beyond) where
       at-beyond (a .request) (a .arcs .now) (s .pre .0) (a .shape) (s .pre .1) (W s) (length (B s)) (a .layer) (a .node) (a .cell)
       (c .before .before .before .if1 .left) (c .before .if2 .left) _ (c .beyond .ensures) t
 
+  -- there are, so that rows 2 to 14 pass
   is-placed : c .beyond .result ≡ false → Placed (R start-of) (W start-of) (length (B start-of)) (start-of .args .layer) (start-of .args .node) (start-of .args .cell)
   is-placed f =
       let s = start-of in
@@ -57,6 +59,7 @@ module _ (c : tie.After-beyond) where
       placed (a .request) (a .arcs .now) (s .pre .0) (a .shape) (s .pre .1) (W s) (length (B s)) (a .layer) (a .node) (a .cell)
       (c .before .before .before .if1 .left) (c .before .if2 .left) _ (c .beyond .ensures) f
 
+  -- and the layer is at most K
   layer-in : c .beyond .result ≡ false → start-of .args .layer ≤ start-of .args .request .hops
   layer-in f = let a = start-of .args in layer-asked (a .request .hops) (a .request .nodes) (cells (R start-of)) (a .layer) (a .node) (a .cell) (is-placed f .inside)
 

@@ -1,8 +1,6 @@
 use borrow.Author.Needs.{needs}
 use Rattle.trials.proofs.main.Statement.{statement}
 use Rattle.trials.proofs.main.Tie as tie
-use Rattle.trials.proofs.main.Reads as reads
-use Rattle.trials.proofs.main.Lts as lts
 
 abbrev Inv-loop : tie.InvT-loop
 Inv-loop turns₀ turns = Unit {0}
