@@ -13,7 +13,7 @@ list='(`[^`]+`(, | and )?)+'
 declares() {
     [ -e "$1" ] && awk -v name="$2" '
         { i = 1; while ($i ~ /^(pub|abbrev|unfoldable|record|data)$/) i++ }
-        $i == name && / : / { found = 1 }
+        $i == name && / :( |$)/ { found = 1 }
         END { exit !found }' "$1"
 }
 

@@ -6,7 +6,6 @@ use native.Mathlib.Nat.{le-step}
 use lib.ListN.{length}
 use lib.Dec.{T}
 use Rattle.words.specs.Pieces.{at}
-use Rattle.words.proofs.Pieces.{at-length}
 use Rattle.request.specs.Request.{Req, width, tail, head}
 use Rattle.request.specs.Shape.{cells, cell}
 use Rattle.request.specs.Accepted.{Regular}
@@ -15,7 +14,7 @@ use Rattle.rounds.specs.Rounds.{span, block, startBlock, keepBlock, layer, labe
 use Rattle.rounds.proofs.Labels.{start-costs, kept-costs}
 use Rattle.rounds.proofs.Start.{start-block, start-label, start-only, cell-zero}
 use Rattle.rounds.proofs.Node.{Origin, of-old, of-arc, made}
-use Rattle.rounds.proofs.Round.{keep-at, keep-filled, layer-length, origin}
+use Rattle.rounds.proofs.Round.{keep-at, keep-filled, block-whole, label-long, origin}
 use Rattle.cover.specs.Walk.{Walk, sums, sumsFrom}
 use Rattle.cover.specs.Cover.{route}
 use Rattle.cover.proofs.Walks.{Rooted, cand-rooted}
@@ -39,14 +38,6 @@ module _ (R : Req) (ok : Regular R) where
       (subst (λ (z : ℕ). Rooted R [] 0 (R .source) z (at (width R) (startBlock R (R .source)) z)) (sym (p .1))
       (subst (λ (z : List ℕ). Rooted R [] 0 (R .source) 0 z) (sym (start-label R ok)) start-rooted)))
 
-  -- a node has so many words in a layer, and each of its labels d+2
-  pub block-whole : (i v : ℕ) → v < R .nodes → length (block R (layer R i) v) ≡ span R
-  unfolding block
-  block-whole i v hv = at-length (span R) (layer R i) (R .nodes) (layer-length R ok i) v hv
-
-  pub label-long : (i v c : ℕ) → v < R .nodes → c < cells R → length (at (width R) (block R (layer R i) v) c) ≡ width R
-  label-long i v c hv hc = at-length (width R) (block R (layer R i) v) (cells R) (block-whole i v hv) c hc
-
   -- a label of the next layer was kept, with the same route, or came by an arc, with the arc at the end of the tail's route
   sound-suc : (i : ℕ) → Sound i → Sound (suc i)
   unfolding labelAt labelOf
@@ -55,8 +46,8 @@ module _ (R : Req) (ok : Regular R) where
       go : Origin R (λ a. block R (layer R i) (tail R a)) v (keepBlock R (block R (layer R i) v)) c (labelAt R (suc i) v c) → Rooted R (route R (suc i) v c) (suc i) v c (labelAt R (suc i) v c)
       go (of-old u e) =
           let F : List ℕ = block R (layer R i) v in
-          let w = block-whole i v hv in
-          let n = label-long i v c hv hc in
+          let w = block-whole R ok i v hv in
+          let n = label-long R ok i v c hv hc in
           let t′ = keep-filled R F w c hc u in
           let old = sound v c hv hc t′ in
           let e′ : labelAt R (suc i) v c ≡ kept R (at (width R) F c) = e ∙ keep-at R F w c hc t′ in
@@ -71,7 +62,7 @@ module _ (R : Req) (ok : Regular R) where
       go (of-arc a f in-a here in-f u k e) =
           let F : List ℕ = block R (layer R i) (tail R a) in
           let hu = ok .tail-in a in-a in
-          let n = label-long i (tail R a) f hu in-f in
+          let n = label-long R ok i (tail R a) f hu in-f in
           let ws : List ℕ = route R i (tail R a) f in
           let r = cand-rooted R ok ws i a f (at (width R) F f) (sound (tail R a) f hu in-f u) in-a n in
           subst (λ (z : List ℕ). Rooted R z (suc i) v c (labelAt R (suc i) v c)) (sym (route-arc R i v c ok a f in-a (at (width R) F f) n e))

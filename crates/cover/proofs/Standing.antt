@@ -13,11 +13,11 @@ use Rattle.rounds.specs.Rounds.{block, layer, labelOf, labelAt}
 use Rattle.rounds.proofs.Ties.{Fair}
 use Rattle.rounds.proofs.Node.{Good, cand}
 use Rattle.rounds.proofs.Start.{start-block, start-good, cells-pos}
-use Rattle.rounds.proofs.Round.{round-tries, round-keeps, layer-length}
+use Rattle.rounds.proofs.Round.{round-tries, round-keeps, layer-length, label-long}
 use Rattle.cover.specs.Walk.{Walk, sums, sumsFrom}
 use Rattle.cover.specs.Cover.{route}
 use Rattle.cover.proofs.Walks.{walk-ind, sums-snoc, length-snoc, under-label, under-cand, cand-cell}
-use Rattle.cover.proofs.Sound.{sound, label-long}
+use Rattle.cover.proofs.Sound.{sound}
 use Rattle.cover.proofs.Carry.{Carries, Stands, stand-first, stand-arc}
 
 module _ (R : Req) (ok : Regular R) (Low : List ℕ → List ℕ → Type 0) (fair : Fair (R .rule) Low) (N : ℕ → ℕ → ℕ → ℕ → Type 0) (carries : Carries R N) where

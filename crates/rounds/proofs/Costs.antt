@@ -7,7 +7,6 @@ use native.Mathlib.Omega.{arith}
 use lib.ListN.{length, getD}
 use lib.Dec.{T}
 use Rattle.words.specs.Pieces.{at}
-use Rattle.words.proofs.Pieces.{at-length}
 use Rattle.request.specs.Request.{Req, width, arcCosts, tail, reach}
 use Rattle.request.specs.Shape.{largest, top, cells}
 use Rattle.request.specs.Accepted.{Regular}
@@ -17,7 +16,7 @@ use Rattle.rounds.specs.Rounds.{span, block, startBlock, startLayer, kee
 use Rattle.rounds.proofs.Labels.{getD-sum, zero-costs, start-costs, kept-costs, came-costs}
 use Rattle.rounds.proofs.Start.{start-block, start-label, start-only}
 use Rattle.rounds.proofs.Node.{Origin, of-old, of-arc}
-use Rattle.rounds.proofs.Round.{keep-at, keep-filled, layer-length, origin}
+use Rattle.rounds.proofs.Round.{keep-at, keep-filled, block-whole, label-long, origin}
 
 -- costs xs are at most i times the largest arc costs
 unfoldable pub Within : Req → ℕ → List ℕ → Type 0
@@ -37,29 +36,22 @@ module _ (R : Req) (ok : Regular R) where
       let z : getD (costs R (at (width R) (block R (startLayer R) v) c)) j 0 ≡ 0 = ap (λ (l : List ℕ). getD (costs R l) j 0) (e ∙ start-label R ok) ∙ ap (λ (l : List ℕ). getD l j 0) (start-costs R) ∙ zero-costs R j in
       omega arith
 
-  block-whole : (i v : ℕ) → v < R .nodes → length (block R (layer R i) v) ≡ span R
-  unfolding block
-  block-whole i v hv = at-length (span R) (layer R i) (R .nodes) (layer-length R ok i) v hv
-
   next-within : (i : ℕ) → Costs i → Costs (suc i)
   unfolding Within labelAt labelOf candidate
   next-within i old v c hv hc t j = go (origin R ok i v c hv hc t)
     where
-      size : (u f : ℕ) → u < R .nodes → f < cells R → length (at (width R) (block R (layer R i) u) f) ≡ width R
-      size u f hu hf = at-length (width R) (block R (layer R i) u) (cells R) (block-whole i u hu) f hf
-
       go : Origin R (λ a. block R (layer R i) (tail R a)) v (keepBlock R (block R (layer R i) v)) c (labelAt R (suc i) v c) → getD (costs R (labelAt R (suc i) v c)) j 0 ≤ suc i * largest R j
       go (of-old u e) =
-          let w = block-whole i v hv in
+          let w = block-whole R ok i v hv in
           let t′ = keep-filled R (block R (layer R i) v) w c hc u in
-          let same = ap (λ (l : List ℕ). getD (costs R l) j 0) (e ∙ keep-at R (block R (layer R i) v) w c hc t′) ∙ ap (λ (l : List ℕ). getD l j 0) (kept-costs R (at (width R) (block R (layer R i) v) c) (size v c hv hc)) in
+          let same = ap (λ (l : List ℕ). getD (costs R l) j 0) (e ∙ keep-at R (block R (layer R i) v) w c hc t′) ∙ ap (λ (l : List ℕ). getD l j 0) (kept-costs R (at (width R) (block R (layer R i) v) c) (label-long R ok i v c hv hc)) in
           let h = old v c hv hc t′ j in
           let s = suc-mul i (largest R j) in
           omega arith
       go (of-arc a f in-a here in-f u k e) =
           let l : List ℕ = at (width R) (block R (layer R i) (tail R a)) f in
           let hu = ok .tail-in a in-a in
-          let same = ap (λ (l : List ℕ). getD (costs R l) j 0) e ∙ ap (λ (l : List ℕ). getD l j 0) (came-costs R ok a in-a l (size (tail R a) f hu in-f) f) ∙ getD-sum (costs R l) (arcCosts R a) j in
+          let same = ap (λ (l : List ℕ). getD (costs R l) j 0) e ∙ ap (λ (l : List ℕ). getD l j 0) (came-costs R ok a in-a l (label-long R ok i (tail R a) f hu in-f) f) ∙ getD-sum (costs R l) (arcCosts R a) j in
           let h = old (tail R a) f hu in-f u j in
           let g = arc-le R a in-a j in
           let s = suc-mul i (largest R j) in

@@ -58,12 +58,6 @@ unfolding tryArc
 tryArc-length R F a B =
     upTo-keeps (tryCell R F a) (λ _ (X : List ℕ). length X ≡ length B) B (cells R) refl (λ f X _ e. tryCell-length R F a f X ∙ e)
 
-pub nodeBlock-length : (R : Req) (F : ℕ → List ℕ) (v : ℕ) (B : List ℕ) → length (nodeBlock R F v B) ≡ length B
-unfolding nodeBlock nodeArc
-nodeBlock-length R F v B =
-    upTo-keeps (nodeArc R F v) (λ _ (X : List ℕ). length X ≡ length B) B (arcCount R) refl
-    (λ a X _ e. cond-cases (λ (Z : List ℕ). length Z ≡ length B) (eqb (head R a) v) (λ _. tryArc-length R (F a) a X ∙ e) (λ _. e))
-
 -- ---- one offer, to a block of C labels
 
 module _ (R : Req) (B : List ℕ) (whole : length B ≡ span R) (c : ℕ) (l : List ℕ) (size : length l ≡ width R) where

@@ -158,6 +158,14 @@ module _ (R : Req) (ok : Regular R) where
   layer-length zero = startLayer-length R
   layer-length (suc i) = round-length R ok (layer R i) (layer-length i)
 
+  -- a node's block of it has C labels, and a label d+2 words
+  pub block-whole : (i v : ℕ) → v < R .nodes → length (block R (layer R i) v) ≡ span R
+  unfolding block
+  block-whole i v hv = at-length (span R) (layer R i) (R .nodes) (layer-length i) v hv
+
+  pub label-long : (i v c : ℕ) → v < R .nodes → c < cells R → length (at (width R) (block R (layer R i) v) c) ≡ width R
+  label-long i v c hv hc = at-length (width R) (block R (layer R i) v) (cells R) (block-whole i v hv) c hc
+
   -- a filled label of the next layer was kept, or came by an arc
   pub origin : (i v c : ℕ) → v < R .nodes → c < cells R → T (filled R (labelAt R (suc i) v c))
       → Origin R (λ a. block R (layer R i) (tail R a)) v (keepBlock R (block R (layer R i) v)) c (labelAt R (suc i) v c)

@@ -7,7 +7,7 @@ use native.Mathlib.Nat.{le-refl, le-trans, le-of-lt}
 use native.Mathlib.Omega.{arith}
 use lib.Dec.{T, ltb, ltb→lt, nltb→le}
 use borrow.Author.Tests.{le-ltb}
-use Rattle.words.proofs.Choices.{false-is}
+use Rattle.words.proofs.Choices.{false-is, or-implies}
 use Rattle.request.specs.Request.{Req, last, lower}
 use Rattle.rounds.specs.Label.{costs, filled, sum, wins}
 use Rattle.rounds.proofs.Labels.{getD-sum}
@@ -54,10 +54,6 @@ lower-stays d = record {
     back : (xs ys : List ℕ) → T (not (ltb (last d xs) (last d ys))) → last d ys ≤ last d xs
     back xs ys t = nltb→le (last d xs) (last d ys) t
 
-won : (x y : Bool) → T (not x || y) → T x → T y
-won true y t u = t
-won false y t u = absurd u
-
 lost : (x y : Bool) → T (not (not x || y)) → T x × T (not y)
 lost true y t = (tt, t)
 lost false y t = absurd t
@@ -70,7 +66,7 @@ held false y t u = absurd t
 module _ (R : Req) (Low : List ℕ → List ℕ → Type 0) (fair : Fair (R .rule) Low) (l old : List ℕ) where
   pub win-low : T (wins R l old) → T (filled R old) → Low (costs R old) (costs R l)
   unfolding wins
-  win-low t u = fair .win (costs R l) (costs R old) (won (filled R old) (R .rule (costs R l) (costs R old)) t u)
+  win-low t u = fair .win (costs R l) (costs R old) (or-implies (filled R old) (R .rule (costs R l) (costs R old)) t u)
 
   pub stay-low : T (not (wins R l old)) → T (filled R old) × Low (costs R l) (costs R old)
   unfolding wins
