@@ -193,7 +193,7 @@ static int list_sheets(void) {
 
 int main(void) {
     printf("| N | M | K | d | ratio | costs to | costs | C | tries | proved, ms | halving, ms | climbing, ms | keys, ms | to halving | to climbing | to keys | million tries/s | laying out |\n");
-    printf("|--|--|--|--|--|--|--|--|--|--|--|--|--|--|--|--|--|--|--|\n");
+    printf("|--|--|--|--|--|--|--|--|--|--|--|--|--|--|--|--|--|--|\n");
     for (size_t i = 0; i < sizeof rows / sizeof rows[0]; i++)
         if (measure(&rows[i]) != 0)
             return 1;

@@ -2,7 +2,7 @@
 # Sees that the names in the pages stand where they say: names "in crate/File" among the definitions and theorems, names after a
 # file of code among its items, and edits among the must-fail edits; and that each public function has its theorem NAME-settled
 # in crates/promises. It says what is amiss, and how many names it has looked up.
-#   tools/names.sh [PAGE..]     docs/MAP.md and docs/PROMISES.md without one
+#   tests/names.sh [PAGE..]     docs/MAP.md and docs/PROMISES.md without one
 set -eu
 cd "$(dirname "$0")/.."
 [ $# -gt 0 ] || set -- docs/MAP.md docs/PROMISES.md
