@@ -19,11 +19,10 @@ use Rattle.rounds.specs.Rounds.{span, block, startBlock, keepBlock, layer, tabl
 use Rattle.rounds.proofs.Labels.{costs-length, step-label, from-label, start-costs, kept-costs, candidate-length, came-costs}
 use Rattle.rounds.proofs.Start.{start-block, start-label, start-only}
 use Rattle.rounds.proofs.Node.{Origin, of-old, of-arc}
-use Rattle.rounds.proofs.Round.{layer-length, keep-at, keep-filled, origin}
+use Rattle.rounds.proofs.Round.{layer-length, keep-at, keep-filled, origin, block-whole, label-long}
 use Rattle.rounds.proofs.Table.{table-length}
 use Rattle.cover.specs.Cover.{route}
 use Rattle.cover.proofs.Routes.{route-kept, route-arc}
-use Rattle.cover.proofs.Sound.{label-long, block-whole}
 use Rattle.route.specs.Chain.{labelIn, whole, push, startHolds, keptHolds, arcHolds, chain}
 use Rattle.route.specs.Walked.{Fronts}
 use Rattle.route.specs.declared.Link.the-variants as link
