@@ -122,9 +122,5 @@ module _ (xs fs₀ los₀ his₀ : List ℕ) (m n d prev base : ℕ) (p : Layers
         }
 
   -- all of them
-  module _ (e : v ≡ m) where
-    pub all-words : ls ≡ write xs base (join (keptOf xs m n d prev) m)
-    all-words = g .words ∙ ap (λ (k : ℕ). write xs base (join (keptOf xs m n d prev) k)) e
-
-    pub all-noted : NotedAll d n (part xs prev (m * (n * (d + 2)))) m fs los his
-    all-noted = subst (λ (k : ℕ). NotedAll d n L k fs los his) e (g .noted)
+  pub all-kept : v ≡ m → (ls ≡ write xs base (join (keptOf xs m n d prev) m)) × NotedAll d n (part xs prev (m * (n * (d + 2)))) m fs los his
+  all-kept e = (g .words ∙ ap (λ (k : ℕ). write xs base (join (keptOf xs m n d prev) k)) e, subst (λ (k : ℕ). NotedAll d n L k fs los his) e (g .noted))

@@ -3,10 +3,10 @@ use mathlib.Core.Path.{_≡_}
 use Prim.Native.Nat.{ℕ, _+_, _-_, _*_, _≤_, _<_}
 use mathlib.Core.List.{List, _++_}
 use lib.ListN.{length, take, drop, replicate}
-use Rattle.words.specs.Pieces.{part, write}
-use Rattle.keeping.specs.Kept.{keptBlock, Noted, Kept-in}
+use Rattle.words.specs.Pieces.{part}
+use Rattle.keeping.specs.Kept.{Kept-in}
 use Rattle.keeping.proofs.Notes.{filled-few}
-use Rattle.keeping.proofs.Blocks.{Cleared, block-few, Along, none-kept, clear-lent, along-long, here, place-clear, one-label, all-words, all-noted}
+use Rattle.keeping.proofs.Blocks.{Cleared, block-few, Along, none-kept, clear-lent, along-long, Here, here, place-clear, one-label, all-kept}
 use borrow.Author.Needs.{needs}
 use native.Mathlib.Omega.{arith}
 use Rattle.keeping.proofs.keep_block.Statement.{statement}
@@ -47,40 +47,16 @@ module _ (l : tie.At-loop Inv-loop μ-loop) where
       along-long (a .labels .now) cleared-words (a .n) (a .d) (a .prev) (a .base) (start-of .pre) cleared
           (l .loop .labels) (l .loop .noted .filled) (l .loop .noted .low) (l .loop .noted .high) (l .loop .at) (l .loop .to) (l .loop .c) (l .loop .inv)
 
-  -- in the loop label c lies before its place, which is within the labels
-  module _ (t : l .loop .c < start-of .args .n) where
-    below : l .loop .at + (start-of .args .d + 2) ≤ l .loop .to
-    below =
-        let a = start-of .args in
-        here (a .labels .now) cleared-words (a .n) (a .d) (a .prev) (a .base) (start-of .pre) cleared
-            (l .loop .labels) (l .loop .noted .filled) (l .loop .noted .low) (l .loop .noted .high) (l .loop .at) (l .loop .to) (l .loop .c) (l .loop .inv) t .below
-
-    inside : l .loop .to + (start-of .args .d + 2) ≤ length (start-of .args .labels .now)
-    inside =
-        let a = start-of .args in
-        here (a .labels .now) cleared-words (a .n) (a .d) (a .prev) (a .base) (start-of .pre) cleared
-            (l .loop .labels) (l .loop .noted .filled) (l .loop .noted .low) (l .loop .noted .high) (l .loop .at) (l .loop .to) (l .loop .c) (l .loop .inv) t .room
-
-    -- and clear
-    clear-place : part (l .loop .labels) (l .loop .to) (start-of .args .d + 2) ≡ replicate (start-of .args .d + 2) 0
-    clear-place =
-        let a = start-of .args in
-        place-clear (a .labels .now) cleared-words (a .n) (a .d) (a .prev) (a .base) (start-of .pre) cleared
-            (l .loop .labels) (l .loop .noted .filled) (l .loop .noted .low) (l .loop .noted .high) (l .loop .at) (l .loop .to) (l .loop .c) (l .loop .inv) t
-
-  -- once all are kept
-  module _ (e : l .loop .c ≡ start-of .args .n) where
-    done-words : l .loop .labels ≡ write (start-of .args .labels .now) (start-of .args .base) (keptBlock (start-of .args .d) (start-of .args .n) (part (start-of .args .labels .now) (start-of .args .prev) (start-of .args .n * (start-of .args .d + 2))))
-    done-words =
-        let a = start-of .args in
-        all-words (a .labels .now) cleared-words (a .n) (a .d) (a .prev) (a .base) (start-of .pre) cleared
-            (l .loop .labels) (l .loop .noted .filled) (l .loop .noted .low) (l .loop .noted .high) (l .loop .at) (l .loop .to) (l .loop .c) (l .loop .inv) e
-
-    done-noted : Noted (start-of .args .d) (part (start-of .args .labels .now) (start-of .args .prev) (start-of .args .n * (start-of .args .d + 2))) (start-of .args .n) (l .loop .noted .filled) (l .loop .noted .low) (l .loop .noted .high)
-    done-noted =
-        let a = start-of .args in
-        all-noted (a .labels .now) cleared-words (a .n) (a .d) (a .prev) (a .base) (start-of .pre) cleared
-            (l .loop .labels) (l .loop .noted .filled) (l .loop .noted .low) (l .loop .noted .high) (l .loop .at) (l .loop .to) (l .loop .c) (l .loop .inv) e
+  -- in the loop: where label c lies and goes
+  known :
+      (t : l .loop .c < start-of .args .n) →
+      let a = start-of .args in
+      Here (a .labels .now) cleared-words (a .n) (a .d) (a .prev) (a .base) (start-of .pre) cleared
+          (l .loop .labels) (l .loop .noted .filled) (l .loop .noted .low) (l .loop .noted .high) (l .loop .at) (l .loop .to) (l .loop .c) (l .loop .inv) t
+  known =
+      let a = start-of .args in
+      here (a .labels .now) cleared-words (a .n) (a .d) (a .prev) (a .base) (start-of .pre) cleared
+          (l .loop .labels) (l .loop .noted .filled) (l .loop .noted .low) (l .loop .noted .high) (l .loop .at) (l .loop .to) (l .loop .c) (l .loop .inv)
 
 -- a block's words are few
 few-words : (s : tie.Start Inv-loop μ-loop) → s .args .n * (s .args .d + 2) ≤ 5242880
@@ -115,9 +91,14 @@ loop-holds c = let a = c .before .before .before .before .before .args in none-k
 
 keep-requires : tie.Need-keep-requires Inv-loop μ-loop
 keep-requires c κs =
-    let l = c .before .before in
+    let h = c .before .before in
+    let s = start-of h in
+    let a = s .args in
+    let l = h .loop in
     let t = c .before .loop-test .taken in
-    (omega (arith, below l t), omega (arith, inside l t, kept l), clear-place l t)
+    let free = place-clear (a .labels .now) (cleared-words h) (a .n) (a .d) (a .prev) (a .base) (s .pre) (cleared h)
+        (l .labels) (l .noted .filled) (l .noted .low) (l .noted .high) (l .at) (l .to) (l .c) (l .inv) t in
+    (omega (arith, known h t), omega (arith, known h t, kept h), free)
 
 note-step-requires : tie.Need-note-step-requires Inv-loop μ-loop
 note-step-requires c κs =
@@ -126,10 +107,10 @@ note-step-requires c κs =
     (filled-few (start-of h .args .d) _ (l .c) (l .noted .filled) (l .noted .low) (l .noted .high) (l .inv .noted), omega (arith, start-of h .pre .small))
 
 add-at : tie.Need-add-at Inv-loop μ-loop
-add-at c = let t = c .before .before .before .before .before .loop-test .taken in omega (arith, below (c .before .before .before .before .before .before) t, inside (c .before .before .before .before .before .before) t)
+add-at c = omega (arith, known (c .before .before .before .before .before .before) (c .before .before .before .before .before .loop-test .taken))
 
 add-to : tie.Need-add-to Inv-loop μ-loop
-add-to c = omega (arith, inside (c .before .before .before .before .before .before) (c .before .before .before .before .before .loop-test .taken))
+add-to c = omega (arith, known (c .before .before .before .before .before .before) (c .before .before .before .before .before .loop-test .taken))
 
 add-c : tie.Need-add-c Inv-loop μ-loop
 add-c c = search needs
@@ -153,9 +134,12 @@ same-length c = kept (c .before)
 
 returns : tie.Need-returns Inv-loop μ-loop
 returns c =
-    let l = c .before in
-    let e : l .loop .c ≡ start-of l .args .n = omega (arith, l .loop .inv .inside) in
-    (done-words l e, done-noted l e)
+    let s = start-of (c .before) in
+    let a = s .args in
+    let l = c .before .loop in
+    let e : l .c ≡ a .n = omega (arith, l .inv .inside) in
+    all-kept (a .labels .now) (cleared-words (c .before)) (a .n) (a .d) (a .prev) (a .base) (s .pre) (cleared (c .before))
+        (l .labels) (l .noted .filled) (l .noted .low) (l .noted .high) (l .at) (l .to) (l .c) (l .inv) e
 
 pub keep-block-spec : {M : Type 1} → statement M
 keep-block-spec =

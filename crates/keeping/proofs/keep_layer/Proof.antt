@@ -3,7 +3,7 @@ use mathlib.Core.Path.{_≡_}
 use Prim.Native.Nat.{_-_, _<_}
 use lib.ListN.{length}
 use Rattle.keeping.proofs.Blocks.{block-few}
-use Rattle.keeping.proofs.Layers.{Along, none-kept, along-long, Here, here, can-keep, one-block, all-words, all-noted}
+use Rattle.keeping.proofs.Layers.{Along, none-kept, along-long, Here, here, can-keep, one-block, all-kept}
 use borrow.Author.Needs.{needs}
 use native.Mathlib.Omega.{arith}
 use Rattle.keeping.proofs.keep_layer.Statement.{statement}
@@ -110,12 +110,9 @@ returns c =
     let s = start-of (c .before) in
     let a = s .args in
     let l = c .before .loop in
-    let e : l .v ≡ a .m = omega (arith, l .inv .inside) in (
-      all-words (a .labels .now) (a .filled .now) (a .lows .now) (a .highs .now) (a .m) (a .n) (a .d) (a .prev) (a .base) (s .pre)
-          (l .labels) (l .filled) (l .lows) (l .highs) (l .at) (l .to) (l .v) (l .inv) e,
-      all-noted (a .labels .now) (a .filled .now) (a .lows .now) (a .highs .now) (a .m) (a .n) (a .d) (a .prev) (a .base) (s .pre)
-          (l .labels) (l .filled) (l .lows) (l .highs) (l .at) (l .to) (l .v) (l .inv) e,
-    )
+    let e : l .v ≡ a .m = omega (arith, l .inv .inside) in
+    all-kept (a .labels .now) (a .filled .now) (a .lows .now) (a .highs .now) (a .m) (a .n) (a .d) (a .prev) (a .base) (s .pre)
+        (l .labels) (l .filled) (l .lows) (l .highs) (l .at) (l .to) (l .v) (l .inv) e
 
 pub keep-layer-spec : {M : Type 1} → statement M
 keep-layer-spec =
