@@ -11,7 +11,7 @@ use Rattle.rounds.proofs.Ties.{lower-stays}
 use Rattle.rounds.proofs.Tries.{filledIn-le}
 use Rattle.tries.specs.Frame.{Apart, Ranged}
 use Rattle.table.proofs.OneArc.{arc-count, Here, here}
-use Rattle.table.proofs.Passing.{layerWords, Along, none-yet, along-length, tries-few, arc-apart, tail-range, tail-count, one-arc, all-words, all-tries}
+use Rattle.table.proofs.Passing.{layerWords, Along, none-yet, along-length, tries-few, arc-apart, tail-range, tail-count, one-arc, all-passed}
 use native.Mathlib.Omega.{arith}
 use Rattle.table.proofs.try_arcs.Statement.{statement}
 use Rattle.table.proofs.try_arcs.Tie as tie
@@ -196,10 +196,8 @@ returns c =
     let a = s .args in
     let l = c .before .loop in
     let m = arc-count (a .s) (a .arcs .now) (a .ladders .now) (s .pre .0) in
-    let e : l .a ≡ arcCount (R-of (c .before)) = omega (arith, l .inv .inside) in (
-      all-words (R-of (c .before)) (a .labels .now) (a .prev) (a .base) (l .labels) (l .tries) (l .a) (l .inv) e,
-      all-tries (R-of (c .before)) (a .labels .now) (a .prev) (a .base) (l .labels) (l .tries) (l .a) (l .inv) e,
-    )
+    let e : l .a ≡ arcCount (R-of (c .before)) = omega (arith, l .inv .inside) in
+    all-passed (R-of (c .before)) (a .labels .now) (a .prev) (a .base) (l .labels) (l .tries) (l .a) (l .inv) e
 
 pub try-arcs-spec : {M : Type 1} → statement M
 try-arcs-spec =

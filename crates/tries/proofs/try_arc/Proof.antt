@@ -99,7 +99,8 @@ module _ (s : tie.Start Inv-loop μ-loop) where
         full-found (a .s) (a .arcs .now) (a .ladders .now) ls (a .from) (a .to) (a .a) (a .low) (a .high) (p .0) apart ranged c n z h o e
 
     -- all of them
-    all-tried : c ≡ s .args .high → ls ≡ write (s .args .labels .now) (s .args .to) (tryArc R-of (part (s .args .labels .now) (s .args .from) (span R-of)) (s .args .a) (part (s .args .labels .now) (s .args .to) (span R-of)))
+    all-tried : c ≡ s .args .high
+        → ls ≡ write (s .args .labels .now) (s .args .to) (tryArc R-of (part (s .args .labels .now) (s .args .from) (span R-of)) (s .args .a) (part (s .args .labels .now) (s .args .to) (span R-of)))
     all-tried =
         let a = s .args in
         let p = s .pre in
