@@ -1,6 +1,6 @@
 -- A layer kept block by block, with the notes of each in its place. Assumes nothing.
 use Prim.Native.Nat.{ℕ, _+_, _*_, _≤_, _<_, zero-le}
-use mathlib.Core.Path.{_≡_, refl, sym, ap, ap₂, _∙_, subst}
+use mathlib.Core.Path.{_≡_, refl, sym, ap, _∙_, subst}
 use mathlib.Core.List.{List}
 use native.Mathlib.Nat.{zero-mul, one-mul, add-mul, not-suc-le-zero}
 use native.Mathlib.Omega.{arith}

@@ -119,7 +119,7 @@ module _ (counts : List ℕ) (graded : ℕ) (ladders cand hint : List ℕ) (h : 
         below = λ i m. lower i m (ℕ-discrete i j);
         number =
             ap₂ (λ (x y : ℕ). x * getD counts j 0 + y)
-                (u .number ∙ radix-ext (λ i. getD counts i 0) (λ i. getD places i 0) (λ i. getD (set places j found) i 0) j (λ i m. sym (kept i (λ q. absurd (omega arith))))) (sym new)
+            (u .number ∙ radix-ext (λ i. getD counts i 0) (λ i. getD places i 0) (λ i. getD (set places j found) i 0) j (λ i m. sym (kept i (λ q. absurd (omega arith))))) (sym new)
             ∙ sym (radix-next (λ i. getD counts i 0) (λ i. getD (set places j found) i 0) j);
         later = λ i m. kept i (λ q. absurd (omega arith)) ∙ u .later i (omega arith);
       }

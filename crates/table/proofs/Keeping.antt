@@ -1,16 +1,16 @@
 -- What `keep_layer` leaves and notes, as the layer's definitions have it. Assumes nothing.
 use Prim.Native.Nat.{ℕ, _+_, _*_, _≤_}
-use mathlib.Core.Path.{_≡_, refl, sym, ap, ap₂, _∙_, subst}
+use mathlib.Core.Path.{_≡_, refl, ap, ap₂, _∙_, subst}
 use mathlib.Core.List.{List}
-use lib.ListN.{length, getD}
+use lib.ListN.{length}
 use Rattle.words.specs.Pieces.{part, at, write, join}
-use Rattle.request.specs.Request.{Req, asked, width}
+use Rattle.request.specs.Request.{Req, asked}
 use Rattle.request.specs.Shape.{cells}
 use Rattle.rounds.specs.Label.{costs, step, filled, empty, kept}
 use Rattle.rounds.specs.Rounds.{span, block, keepCell, keepBlock, keepAll, filledIn}
-use Rattle.keeping.specs.Kept.{keepWords, keptBlock, filledOf, Noted, NotedAll}
+use Rattle.keeping.specs.Kept.{keepWords, keptBlock, filledOf, NotedAll}
 use Rattle.tries.specs.declared.Frame.{Frame}
-use Rattle.tries.specs.Frame.{Framed, Ranged}
+use Rattle.tries.specs.Frame.{Framed}
 use Rattle.tries.proofs.Frames.{span-is}
 use Rattle.table.specs.Build.{Notes}
 

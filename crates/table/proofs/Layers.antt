@@ -100,7 +100,7 @@ module _ (R : Req) where
 
     module _ (l : i < R .hops) where
       -- the layers so far, and the next, lie within the buffer
-      pub ends : base + layerWords R + layerWords R ≤ length xs
+      ends : base + layerWords R + layerWords R ≤ length xs
       ends =
           let t = table-length R ok in
           let b = g .begins in

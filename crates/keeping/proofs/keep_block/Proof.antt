@@ -45,18 +45,18 @@ module _ (l : tie.At-loop Inv-loop μ-loop) where
   kept =
       let a = start-of .args in
       along-long (a .labels .now) cleared-words (a .n) (a .d) (a .prev) (a .base) (start-of .pre) cleared
-          (l .loop .labels) (l .loop .noted .filled) (l .loop .noted .low) (l .loop .noted .high) (l .loop .at) (l .loop .to) (l .loop .c) (l .loop .inv)
+      (l .loop .labels) (l .loop .noted .filled) (l .loop .noted .low) (l .loop .noted .high) (l .loop .at) (l .loop .to) (l .loop .c) (l .loop .inv)
 
   -- in the loop: where label c lies and goes
   known :
       (t : l .loop .c < start-of .args .n) →
       let a = start-of .args in
       Here (a .labels .now) cleared-words (a .n) (a .d) (a .prev) (a .base) (start-of .pre) cleared
-          (l .loop .labels) (l .loop .noted .filled) (l .loop .noted .low) (l .loop .noted .high) (l .loop .at) (l .loop .to) (l .loop .c) (l .loop .inv) t
+      (l .loop .labels) (l .loop .noted .filled) (l .loop .noted .low) (l .loop .noted .high) (l .loop .at) (l .loop .to) (l .loop .c) (l .loop .inv) t
   known =
       let a = start-of .args in
       here (a .labels .now) cleared-words (a .n) (a .d) (a .prev) (a .base) (start-of .pre) cleared
-          (l .loop .labels) (l .loop .noted .filled) (l .loop .noted .low) (l .loop .noted .high) (l .loop .at) (l .loop .to) (l .loop .c) (l .loop .inv)
+      (l .loop .labels) (l .loop .noted .filled) (l .loop .noted .low) (l .loop .noted .high) (l .loop .at) (l .loop .to) (l .loop .c) (l .loop .inv)
 
 -- a block's words are few
 few-words : (s : tie.Start Inv-loop μ-loop) → s .args .n * (s .args .d + 2) ≤ 5242880
@@ -97,7 +97,7 @@ keep-requires c κs =
     let l = h .loop in
     let t = c .before .loop-test .taken in
     let free = place-clear (a .labels .now) (cleared-words h) (a .n) (a .d) (a .prev) (a .base) (s .pre) (cleared h)
-        (l .labels) (l .noted .filled) (l .noted .low) (l .noted .high) (l .at) (l .to) (l .c) (l .inv) t in
+    (l .labels) (l .noted .filled) (l .noted .low) (l .noted .high) (l .at) (l .to) (l .c) (l .inv) t in
     (omega (arith, known h t), omega (arith, known h t, kept h), free)
 
 note-step-requires : tie.Need-note-step-requires Inv-loop μ-loop
@@ -127,7 +127,7 @@ loop-again c =
     let y = c .before .before .before .keep in
     let z = c .note-step in
     one-label (a .labels .now) (cleared-words h) (a .n) (a .d) (a .prev) (a .base) (s .pre) (cleared h) (l .labels) (l .noted .filled) (l .noted .low) (l .noted .high) (l .at) (l .to) (l .c) (l .inv)
-        (c .before .before .before .before .before .loop-test .taken) (y .last .0) (y .result) (z .result .filled) (z .result .low) (z .result .high) (y .ensures .0) (y .ensures .1) (z .ensures)
+    (c .before .before .before .before .before .loop-test .taken) (y .last .0) (y .result) (z .result .filled) (z .result .low) (z .result .high) (y .ensures .0) (y .ensures .1) (z .ensures)
 
 same-length : tie.Need-same-length Inv-loop μ-loop
 same-length c = kept (c .before)
@@ -139,7 +139,7 @@ returns c =
     let l = c .before .loop in
     let e : l .c ≡ a .n = omega (arith, l .inv .inside) in
     all-kept (a .labels .now) (cleared-words (c .before)) (a .n) (a .d) (a .prev) (a .base) (s .pre) (cleared (c .before))
-        (l .labels) (l .noted .filled) (l .noted .low) (l .noted .high) (l .at) (l .to) (l .c) (l .inv) e
+    (l .labels) (l .noted .filled) (l .noted .low) (l .noted .high) (l .at) (l .to) (l .c) (l .inv) e
 
 pub keep-block-spec : {M : Type 1} → statement M
 keep-block-spec =

@@ -25,7 +25,7 @@ module _ (l : tie.At-loop Inv-loop μ-loop) where
   kept =
       let a = start-of .args in
       along-long (a .labels .now) (a .filled .now) (a .lows .now) (a .highs .now) (a .m) (a .n) (a .d) (a .prev) (a .base) (start-of .pre)
-          (l .loop .labels) (l .loop .filled) (l .loop .lows) (l .loop .highs) (l .loop .at) (l .loop .to) (l .loop .v) (l .loop .inv)
+      (l .loop .labels) (l .loop .filled) (l .loop .lows) (l .loop .highs) (l .loop .at) (l .loop .to) (l .loop .v) (l .loop .inv)
 
   -- in the loop: where block v lies and goes, and its notes
   known : (t : l .loop .v < start-of .args .m) → (let a = start-of .args in Here (a .labels .now) (a .filled .now) (a .lows .now) (a .highs .now) (a .m) (a .n) (a .d) (a .prev) (a .base) (start-of .pre)
@@ -33,7 +33,7 @@ module _ (l : tie.At-loop Inv-loop μ-loop) where
   known =
       let a = start-of .args in
       here (a .labels .now) (a .filled .now) (a .lows .now) (a .highs .now) (a .m) (a .n) (a .d) (a .prev) (a .base) (start-of .pre)
-          (l .loop .labels) (l .loop .filled) (l .loop .lows) (l .loop .highs) (l .loop .at) (l .loop .to) (l .loop .v) (l .loop .inv)
+      (l .loop .labels) (l .loop .filled) (l .loop .lows) (l .loop .highs) (l .loop .at) (l .loop .to) (l .loop .v) (l .loop .inv)
 
 add-span : tie.Need-add-span Inv-loop μ-loop
 add-span c = let s = c .before .before .before .before in omega (arith, s .pre, block-few (s .args .n) (s .args .d) (s .pre .few) (s .pre .small))
@@ -50,7 +50,7 @@ keep-block-requires c κs =
     let a = s .args in
     let l = c .before .before .loop in
     can-keep (a .labels .now) (a .filled .now) (a .lows .now) (a .highs .now) (a .m) (a .n) (a .d) (a .prev) (a .base) (s .pre)
-        (l .labels) (l .filled) (l .lows) (l .highs) (l .at) (l .to) (l .v) (l .inv) (c .before .loop-test .taken)
+    (l .labels) (l .filled) (l .lows) (l .highs) (l .at) (l .to) (l .v) (l .inv) (c .before .loop-test .taken)
 
 mul-filled : tie.Need-mul-filled Inv-loop μ-loop
 mul-filled c = search needs
@@ -90,8 +90,8 @@ loop-again c =
     let l = h .loop in
     let x = c .before .before .keep-block in
     one-block (a .labels .now) (a .filled .now) (a .lows .now) (a .highs .now) (a .m) (a .n) (a .d) (a .prev) (a .base) (s .pre)
-        (l .labels) (l .filled) (l .lows) (l .highs) (l .at) (l .to) (l .v) (l .inv)
-        (c .before .before .before .before .loop-test .taken) (x .last .0) (x .result .filled) (x .result .low) (x .result .high) (x .ensures .0) (x .ensures .1)
+    (l .labels) (l .filled) (l .lows) (l .highs) (l .at) (l .to) (l .v) (l .inv)
+    (c .before .before .before .before .loop-test .taken) (x .last .0) (x .result .filled) (x .result .low) (x .result .high) (x .ensures .0) (x .ensures .1)
 
 same-length : tie.Need-same-length Inv-loop μ-loop
 same-length c = kept (c .before)
@@ -112,7 +112,7 @@ returns c =
     let l = c .before .loop in
     let e : l .v ≡ a .m = omega (arith, l .inv .inside) in
     all-kept (a .labels .now) (a .filled .now) (a .lows .now) (a .highs .now) (a .m) (a .n) (a .d) (a .prev) (a .base) (s .pre)
-        (l .labels) (l .filled) (l .lows) (l .highs) (l .at) (l .to) (l .v) (l .inv) e
+    (l .labels) (l .filled) (l .lows) (l .highs) (l .at) (l .to) (l .v) (l .inv) e
 
 pub keep-layer-spec : {M : Type 1} → statement M
 keep-layer-spec =

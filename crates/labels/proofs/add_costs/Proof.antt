@@ -83,7 +83,7 @@ returns c =
     let l = c .before .loop in
     let e : l .k ≡ a .d = omega arith in
     step-and-from (a .d) (a .out .now) (a .lab .now) (a .arc .now) (c .before .before .pre) (l .out) (a .step) (a .from)
-        (l .inv .1 ∙ ap (λ (n : ℕ). take n (sums (a .d) (a .lab .now) (a .arc .now)) ++ drop n (a .out .now)) e)
+    (l .inv .1 ∙ ap (λ (n : ℕ). take n (sums (a .d) (a .lab .now) (a .arc .now)) ++ drop n (a .out .now)) e)
 
 pub add-costs-spec : {M : Type 1} → statement M
 add-costs-spec =

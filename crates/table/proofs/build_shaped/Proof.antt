@@ -117,7 +117,7 @@ returns c =
     let s = start-of (framed (c .before)) in
     let a = s .args in
     let r = refused-all (R-of s) (a .ladders .now) (a .labels .now) 13 1
-        (short-ladders (R-of s) (length (a .ladders .now)) (length (a .labels .now)) (s .pre .0) (omega (arith, ladder-words-are (c .before), c .if1 .taken))) in
+    (short-ladders (R-of s) (length (a .ladders .now)) (length (a .labels .now)) (s .pre .0) (omega (arith, ladder-words-are (c .before), c .if1 .taken))) in
     (r .0, (r .1, r .2))
 
 cast-words : tie.Need-cast-words
@@ -139,7 +139,7 @@ returns-2 c =
     let s = start-of f in
     let a = s .args in
     let r = refused-all (R-of s) (a .ladders .now) (a .labels .now) 13 2
-        (short-labels (R-of s) (length (a .ladders .now)) (length (a .labels .now)) (s .pre .0) (ladders-fit k) (omega (arith, words-are f, c .if2 .taken))) in
+    (short-labels (R-of s) (length (a .ladders .now)) (length (a .labels .now)) (s .pre .0) (ladders-fit k) (omega (arith, words-are f, c .if2 .taken))) in
     (r .0, (r .1, r .2))
 
 fill-ladders-requires : tie.Need-fill-ladders-requires

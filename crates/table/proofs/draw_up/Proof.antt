@@ -1,6 +1,6 @@
 -- `draw_up`: layer 0 first, and the rounds over it. Assumes nothing.
 use mathlib.Core.Path.{_≡_, ap, ap₂, _∙_}
-use Prim.Native.Nat.{ℕ, _+_, _*_, _≤_}
+use Prim.Native.Nat.{ℕ, _≤_}
 use native.Mathlib.Nat.{mul-le-mul-right, one-mul}
 use mathlib.Core.List.{List}
 use lib.ListN.{length}
@@ -8,17 +8,15 @@ use lib.Dec.{eqb}
 use Rattle.words.specs.Pieces.{write, join}
 use Rattle.words.proofs.Writes.{length-write}
 use Rattle.request.specs.Request.{Req, asked, width}
-use Rattle.rounds.specs.Rounds.{span, startLayer, table}
+use Rattle.rounds.specs.Rounds.{span, startLayer}
 use Rattle.rounds.proofs.Start.{cells-pos}
 use Rattle.tries.specs.declared.Frame.{Frame}
 use Rattle.tries.specs.Frame.{Framed}
 use Rattle.tries.proofs.Frames.{span-is}
 use Rattle.table.specs.Build.{startWords}
 use Rattle.table.proofs.Keeping.{layer-size}
-use Rattle.table.proofs.Passing.{layerWords}
 use Rattle.table.proofs.Starting.{layer-is}
 use Rattle.table.proofs.Layers.{one-layer, start-stands, over-start}
-use Rattle.rounds.proofs.Table.{table-length}
 use borrow.Author.Needs.{needs}
 use native.Mathlib.Omega.{arith}
 use Rattle.table.proofs.draw_up.Statement.{statement}

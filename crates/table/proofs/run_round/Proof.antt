@@ -65,7 +65,7 @@ try-arcs-requires c κs =
     let a = start-of k .args in
     let few = p .0 .bounded .nodes-few in
     let n = layer-notes (a .s) (a .arcs .now) (a .ladders .now) (p .0) (a .labels .now) (a .prev) (a .base) _ _ _
-        (omega (arith, few, x .kept .1 .0)) (omega (arith, few, x .kept .1 .1 .0)) (omega (arith, few, x .kept .1 .1 .1 .0)) (x .ensures .1) in (
+    (omega (arith, few, x .kept .1 .0)) (omega (arith, few, x .kept .1 .1 .0)) (omega (arith, few, x .kept .1 .1 .1 .0)) (x .ensures .1) in (
       p .0,
       (
         layered-later (R-of k) (a .labels .now) (x .last .0) _ (a .prev) (a .base) (p .1) (kept k),

@@ -15,7 +15,7 @@ use Rattle.rounds.proofs.Ties.{lower-stays}
 use Rattle.table.specs.Build.{Layered}
 use Rattle.table.proofs.Keeping.{layer-size}
 use Rattle.table.proofs.Passing.{layerWords}
-use Rattle.table.proofs.Layers.{Drawn, first-drawn, drawn-length, ends, next-layered, next-drawn, all-drawn}
+use Rattle.table.proofs.Layers.{Drawn, first-drawn, drawn-length, next-layered, next-drawn, all-drawn}
 use borrow.Author.Needs.{needs}
 use native.Mathlib.Omega.{arith}
 use Rattle.table.proofs.run_rounds.Statement.{statement}
@@ -110,7 +110,7 @@ loop-again c =
     let made = x .ensures .0 ∙ ap (λ (n : ℕ). write (l .labels) (l .base + n) (round (R-of h) (part (l .labels) (l .base) (layerWords (R-of h))))) (size h) in
     subst (λ (n : ℕ). Drawn (R-of h) (s .args .labels .now) (x .last .0) (l .base + n) (l .tries + x .result) (l .i + 1)) (sym (size h))
     (next-drawn (R-of h) (s .pre .0 .regular) (s .args .labels .now) (l .labels) (l .base) (l .tries) (l .i) (l .inv) (s .pre .1 .0)
-        (c .before .before .before .before .loop-test .taken) (x .last .0) (x .result) made (x .ensures .1))
+    (c .before .before .before .before .loop-test .taken) (x .last .0) (x .result) made (x .ensures .1))
 
 same-length : tie.Need-same-length Inv-loop μ-loop
 same-length c = kept (c .before)

@@ -79,7 +79,7 @@ module _ (c : tie.After-block-at2 Inv-loop μ-loop) where
       let l = at-head .loop in
       let a = S .args in
       arc-apart R (a .labels .now) (a .prev) (a .base) (S .pre .0 .regular) (S .pre .1 .0) (l .labels) (l .tries) (l .a) (l .inv) (arc-of inner .index) from to from-is to-is
-          (lower-stays (a .s .request .criteria)) (S .pre .1 .1 .0)
+      (lower-stays (a .s .request .criteria)) (S .pre .1 .1 .0)
 
   -- the range that was noted for the tail holds its filled labels
   abbrev tail-node : ℕ
@@ -90,8 +90,8 @@ module _ (c : tie.After-block-at2 Inv-loop μ-loop) where
       let l = at-head .loop in
       let a = S .args in
       tail-range R (a .labels .now) (a .prev) (a .base) (S .pre .0 .regular) (S .pre .1 .0) (l .labels) (l .tries) (l .a) (l .inv) (arc-of inner .index) from to from-is to-is
-          (a .filled .now) (a .lows .now) (a .highs .now) (S .pre .1 .1 .1) _ _
-          (ap (λ (v : ℕ). getD (a .lows .now) v 0) (arc-of inner .tail-is)) (ap (λ (v : ℕ). getD (a .highs .now) v 0) (arc-of inner .tail-is))
+      (a .filled .now) (a .lows .now) (a .highs .now) (S .pre .1 .1 .1) _ _
+      (ap (λ (v : ℕ). getD (a .lows .now) v 0) (arc-of inner .tail-is)) (ap (λ (v : ℕ). getD (a .highs .now) v 0) (arc-of inner .tail-is))
 
   -- and the count that was noted is how many they are
   noted : getD (S .args .filled .now) tail-node 0 ≡ filledIn R (block R (part (S .args .labels .now) (S .args .prev) (layerWords R)) (tail R (at-head .loop .a)))
@@ -99,7 +99,7 @@ module _ (c : tie.After-block-at2 Inv-loop μ-loop) where
       let l = at-head .loop in
       let a = S .args in
       tail-count R (a .labels .now) (a .prev) (a .base) (S .pre .0 .regular) (S .pre .1 .0) (l .labels) (l .tries) (l .a) (l .inv) (arc-of inner .index) from to from-is to-is
-          (a .filled .now) (a .lows .now) (a .highs .now) (S .pre .1 .1 .1) _ (ap (λ (v : ℕ). getD (a .filled .now) v 0) (arc-of inner .tail-is))
+      (a .filled .now) (a .lows .now) (a .highs .now) (S .pre .1 .1 .1) _ (ap (λ (v : ℕ). getD (a .filled .now) v 0) (arc-of inner .tail-is))
 
 div-m : tie.Need-div-m Inv-loop μ-loop
 div-m c = omega (arith, c .before .before .before .before .before .before .pre .0 .sized .words)
@@ -185,7 +185,7 @@ loop-again c =
     let l = at-head b .loop in
     let a = S b .args in
     one-arc (R b) (a .labels .now) (a .prev) (a .base) (S b .pre .0 .regular) (S b .pre .1 .0) (l .labels) (l .tries) (l .a) (l .inv) (arc-of (inner b) .index) (from b) (to b) (from-is b) (to-is b)
-        (made .last .0) _ (made .ensures) (noted b)
+    (made .last .0) _ (made .ensures) (noted b)
 
 same-length : tie.Need-same-length Inv-loop μ-loop
 same-length c = kept (c .before)

@@ -1,6 +1,6 @@
 -- `next_fresh`. The loop's invariant: the cells from c up to i are quiet (`Past`). Assumes nothing.
-use mathlib.Core.Path.{_≡_, sym, _∙_}
-use Prim.Native.Nat.{ℕ, _+_, _-_, _*_, _≤_}
+use mathlib.Core.Path.{sym, _∙_}
+use Prim.Native.Nat.{_+_, _-_, _*_, _≤_}
 use lib.ListN.{length}
 use Rattle.words.proofs.Choices.{not-true, not-false}
 use Rattle.tries.proofs.Fresh.{Past, none-past, few, all-past, step-in, found, one-past}

@@ -1,5 +1,5 @@
 -- `places_of`. The loop's invariant: the places from j on are within their counts (`Digits`). Assumes nothing.
-use Prim.Native.Nat.{ℕ, _-_, _<_}
+use Prim.Native.Nat.{_-_, _<_}
 use lib.ListN.{length, getD}
 use native.Mathlib.Nat.{mod-lt}
 use Rattle.tries.proofs.Digits.{Digits, none-divided, one-divided}

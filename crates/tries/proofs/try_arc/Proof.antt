@@ -89,7 +89,7 @@ module _ (s : tie.Start Inv-loop μ-loop) where
         let a = s .args in
         let p = s .pre in
         passed-over R-of (p .0 .regular) (lower-stays (a .s .request .criteria)) (a .labels .now) (a .from) (a .to) (a .a) (a .low) (a .high) (p .1 .0) (p .1 .1 .0) (p .1 .1 .1) ls c g n (z .reached) (z .inside)
-            (quiet-between (a .s) (a .arcs .now) (a .ladders .now) ls (a .from) (a .to) (a .a) (a .low) (a .high) (p .0) apart ranged c n (z .inside) z)
+        (quiet-between (a .s) (a .arcs .now) (a .ladders .now) ls (a .from) (a .to) (a .a) (a .low) (a .high) (p .0) apart ranged c n (z .inside) z)
 
     -- and what is found is filled
     full : (n : ℕ) → Next ls c n → (o : ℕ) → n < s .args .high → o ≡ n * s .args .s .w → getD ls (s .args .from + o + s .args .s .d) 0 ≡ 0 → ⊥
@@ -131,7 +131,7 @@ module _ (k : tie.After-label-at Inv-loop μ-loop) where
       let a = S .args in
       let l = head-of .loop in
       can-extend (a .s) (a .arcs .now) (a .ladders .now) (l .labels) (a .from) (a .to) (a .a) (l .c) (S .pre .0) (apart S (l .labels) (l .c) (l .inv .0)) in-c
-          (k .label-at .result) (k .label-at .ensures .0) (S .pre .1 .1 .0) (l .places) (l .inv .1) not-empty
+      (k .label-at .result) (k .label-at .ensures .0) (S .pre .1 .1 .0) (l .places) (l .inv .1) not-empty
 
 -- once it is extended
 module _ (x : tie.After-extend Inv-loop μ-loop) where
@@ -148,10 +148,10 @@ module _ (x : tie.After-extend Inv-loop μ-loop) where
       let p = T .pre in
       let l = head-of found .loop in
       one-more (R-of T) (p .0 .regular) (lower-stays (a .s .request .criteria)) (a .labels .now) (a .from) (a .to) (a .a) (a .low) (a .high) (p .1 .0) (p .1 .1 .0) (p .1 .1 .1) (l .labels) (l .c) (l .inv .0)
-          (found .before .loop-test .taken) (x .extend .last .0)
-          (x .extend .ensures .0
-          ∙ filled-try (a .s) (a .arcs .now) (a .ladders .now) (l .labels) (a .from) (a .to) (a .a) (l .c) (p .0) (apart T (l .labels) (l .c) (l .inv .0)) (in-c found)
-              (found .label-at .result) (found .label-at .ensures .0) (p .1 .1 .0) (l .places) (l .inv .1) (not-empty found) (x .extend .result) (x .extend .last .1 .1 .1 .0) (x .extend .ensures .1))
+      (found .before .loop-test .taken) (x .extend .last .0)
+      (x .extend .ensures .0
+      ∙ filled-try (a .s) (a .arcs .now) (a .ladders .now) (l .labels) (a .from) (a .to) (a .a) (l .c) (p .0) (apart T (l .labels) (l .c) (l .inv .0)) (in-c found)
+      (found .label-at .result) (found .label-at .ensures .0) (p .1 .1 .0) (l .places) (l .inv .1) (not-empty found) (x .extend .result) (x .extend .last .1 .1 .1 .0) (x .extend .ensures .1))
 
   -- its places are those to look from next
   hints : Hinted (R-of T) (x .extend .last .1 .1 .1 .0)
@@ -159,7 +159,7 @@ module _ (x : tie.After-extend Inv-loop μ-loop) where
       let a = T .args in
       let l = head-of found .loop in
       filled-hints (a .s) (a .arcs .now) (a .ladders .now) (l .labels) (a .from) (a .to) (a .a) (l .c) (T .pre .0) (apart T (l .labels) (l .c) (l .inv .0)) (in-c found)
-          (found .label-at .result) (found .label-at .ensures .0) (T .pre .1 .1 .0) (l .places) (l .inv .1) (not-empty found) (x .extend .result) (x .extend .last .1 .1 .1 .0) (x .extend .ensures .1)
+      (found .label-at .result) (found .label-at .ensures .0) (T .pre .1 .1 .0) (l .places) (l .inv .1) (not-empty found) (x .extend .result) (x .extend .last .1 .1 .1 .0) (x .extend .ensures .1)
 
   abbrev long : length (x .extend .last .0) ≡ length (T .args .labels .now)
   long = kept T (x .extend .last .0) (head-of found .loop .c + 1) tried
