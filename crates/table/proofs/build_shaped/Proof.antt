@@ -50,6 +50,7 @@ module _ (c : tie.After-frame) where
   request-is : c .frame .result .request ≡ start-of .args .request
   request-is = request-by (start-of .args .request) (start-of .args .shape) (c .frame .result) (c .frame .ensures)
 
+  -- its numbers are the request's
   d-is : c .frame .result .d ≡ start-of .args .request .criteria
   d-is = criteria-by (start-of .args .request) (start-of .args .shape) (c .frame .result) (c .frame .ensures)
 
@@ -71,6 +72,7 @@ module _ (c : tie.After-ladder-words) where
   abbrev framed : tie.After-frame
   framed = c .before .before
 
+  -- they are the ladders' length
   ladder-words-are : c .ladder-words .result ≡ length (ladders (R-of (start-of framed)))
   ladder-words-are = let s = start-of framed in c .ladder-words .ensures ∙ ladder-room (s .args .request) (s .args .arcs .now) (s .pre .0) (s .args .shape) (s .pre .1)
 

@@ -12,7 +12,7 @@ use Rattle.rounds.proofs.Ties.{lower-stays}
 use Rattle.tries.specs.Frame.{Extends, Apart, Ranged, Hinted, Fresh}
 use Rattle.tries.proofs.Trying.{can-extend, filled-hints, filled-try}
 use Rattle.tries.proofs.Arcs.{Reach, reach, block-room, quiet-between, full-found, counts-some, places-hint}
-use Rattle.tries.proofs.Arcs.{Along, low-first, still-apart, still-ranged, same-length as along-length, passed-over, one-more, all-words}
+use Rattle.tries.proofs.Arcs.{Along, low-first, still, passed-over, one-more, all-words}
 use borrow.Author.Needs.{needs}
 use native.Mathlib.Omega.{arith}
 use Rattle.tries.proofs.try_arc.Statement.{statement}
@@ -57,31 +57,19 @@ module _ (s : tie.Start Inv-loop μ-loop) where
       low-first R-of (p .0 .regular) (lower-stays (a .s .request .criteria)) (a .labels .now) (a .from) (a .to) (a .a) (a .low) (a .high) (p .1 .0) (p .1 .1 .0) (p .1 .1 .1)
 
   module _ (ls : List ℕ) (c : ℕ) (g : Tried ls c) where
-    -- the labels are as many words as they came
-    kept : length ls ≡ length (s .args .labels .now)
-    kept =
+    -- the labels are as many words as they came, the blocks stand apart as before, and the range holds
+    stands : (length ls ≡ length (s .args .labels .now)) × Apart R-of ls (s .args .from) (s .args .to) (s .args .a) × Ranged R-of (part ls (s .args .from) (span R-of)) (s .args .low) (s .args .high)
+    stands =
         let a = s .args in
         let p = s .pre in
-        along-length R-of (p .0 .regular) (lower-stays (a .s .request .criteria)) (a .labels .now) (a .from) (a .to) (a .a) (a .low) (a .high) (p .1 .0) (p .1 .1 .0) (p .1 .1 .1) ls c g
+        still R-of (p .0 .regular) (lower-stays (a .s .request .criteria)) (a .labels .now) (a .from) (a .to) (a .a) (a .low) (a .high) (p .1 .0) (p .1 .1 .0) (p .1 .1 .1) ls c g
 
-    -- the blocks stand apart as before, and the range holds
-    apart : Apart R-of ls (s .args .from) (s .args .to) (s .args .a)
-    apart =
-        let a = s .args in
-        let p = s .pre in
-        still-apart R-of (p .0 .regular) (lower-stays (a .s .request .criteria)) (a .labels .now) (a .from) (a .to) (a .a) (a .low) (a .high) (p .1 .0) (p .1 .1 .0) (p .1 .1 .1) ls c g
-
-    ranged : Ranged R-of (part ls (s .args .from) (span R-of)) (s .args .low) (s .args .high)
-    ranged =
-        let a = s .args in
-        let p = s .pre in
-        still-ranged R-of (p .0 .regular) (lower-stays (a .s .request .criteria)) (a .labels .now) (a .from) (a .to) (a .a) (a .low) (a .high) (p .1 .0) (p .1 .1 .0) (p .1 .1 .1) ls c g
-
+    -- the cells up to `high` lie in the tail's block as it is lent
     room : s .args .high * (s .args .s .d + 2) ≤ length (part ls (s .args .from) (s .args .from + s .args .s .span - s .args .from))
     room =
         let a = s .args in
         let p = s .pre in
-        block-room (a .s) (a .arcs .now) (a .ladders .now) ls (a .from) (a .to) (a .a) (a .low) (a .high) (p .0) apart ranged
+        block-room (a .s) (a .arcs .now) (a .ladders .now) ls (a .from) (a .to) (a .a) (a .low) (a .high) (p .0) (stands .1) (stands .2)
 
     -- what is passed over is tried too, as it is quiet
     passed : (n : ℕ) → Next ls c n → Tried ls n
@@ -89,14 +77,14 @@ module _ (s : tie.Start Inv-loop μ-loop) where
         let a = s .args in
         let p = s .pre in
         passed-over R-of (p .0 .regular) (lower-stays (a .s .request .criteria)) (a .labels .now) (a .from) (a .to) (a .a) (a .low) (a .high) (p .1 .0) (p .1 .1 .0) (p .1 .1 .1) ls c g n (z .reached) (z .inside)
-        (quiet-between (a .s) (a .arcs .now) (a .ladders .now) ls (a .from) (a .to) (a .a) (a .low) (a .high) (p .0) apart ranged c n (z .inside) z)
+        (quiet-between (a .s) (a .arcs .now) (a .ladders .now) ls (a .from) (a .to) (a .a) (a .low) (a .high) (p .0) (stands .1) (stands .2) c n (z .inside) z)
 
     -- and what is found is filled
     full : (n : ℕ) → Next ls c n → (o : ℕ) → n < s .args .high → o ≡ n * s .args .s .w → getD ls (s .args .from + o + s .args .s .d) 0 ≡ 0 → ⊥
     full n z o h e =
         let a = s .args in
         let p = s .pre in
-        full-found (a .s) (a .arcs .now) (a .ladders .now) ls (a .from) (a .to) (a .a) (a .low) (a .high) (p .0) apart ranged c n z h o e
+        full-found (a .s) (a .arcs .now) (a .ladders .now) ls (a .from) (a .to) (a .a) (a .low) (a .high) (p .0) (stands .1) (stands .2) c n z h o e
 
     -- all of them
     all-tried : c ≡ s .args .high
@@ -130,7 +118,7 @@ module _ (k : tie.After-label-at Inv-loop μ-loop) where
   extends =
       let a = S .args in
       let l = head-of .loop in
-      can-extend (a .s) (a .arcs .now) (a .ladders .now) (l .labels) (a .from) (a .to) (a .a) (l .c) (S .pre .0) (apart S (l .labels) (l .c) (l .inv .0)) in-c
+      can-extend (a .s) (a .arcs .now) (a .ladders .now) (l .labels) (a .from) (a .to) (a .a) (l .c) (S .pre .0) (stands S (l .labels) (l .c) (l .inv .0) .1) in-c
       (k .label-at .result) (k .label-at .ensures .0) (S .pre .1 .1 .0) (l .places) (l .inv .1) not-empty
 
 -- once it is extended
@@ -150,7 +138,7 @@ module _ (x : tie.After-extend Inv-loop μ-loop) where
       one-more (R-of T) (p .0 .regular) (lower-stays (a .s .request .criteria)) (a .labels .now) (a .from) (a .to) (a .a) (a .low) (a .high) (p .1 .0) (p .1 .1 .0) (p .1 .1 .1) (l .labels) (l .c) (l .inv .0)
       (found .before .loop-test .taken) (x .extend .last .0)
       (x .extend .ensures .0
-      ∙ filled-try (a .s) (a .arcs .now) (a .ladders .now) (l .labels) (a .from) (a .to) (a .a) (l .c) (p .0) (apart T (l .labels) (l .c) (l .inv .0)) (in-c found)
+      ∙ filled-try (a .s) (a .arcs .now) (a .ladders .now) (l .labels) (a .from) (a .to) (a .a) (l .c) (p .0) (stands T (l .labels) (l .c) (l .inv .0) .1) (in-c found)
       (found .label-at .result) (found .label-at .ensures .0) (p .1 .1 .0) (l .places) (l .inv .1) (not-empty found) (x .extend .result) (x .extend .last .1 .1 .1 .0) (x .extend .ensures .1))
 
   -- its places are those to look from next
@@ -158,11 +146,12 @@ module _ (x : tie.After-extend Inv-loop μ-loop) where
   hints =
       let a = T .args in
       let l = head-of found .loop in
-      filled-hints (a .s) (a .arcs .now) (a .ladders .now) (l .labels) (a .from) (a .to) (a .a) (l .c) (T .pre .0) (apart T (l .labels) (l .c) (l .inv .0)) (in-c found)
+      filled-hints (a .s) (a .arcs .now) (a .ladders .now) (l .labels) (a .from) (a .to) (a .a) (l .c) (T .pre .0) (stands T (l .labels) (l .c) (l .inv .0) .1) (in-c found)
       (found .label-at .result) (found .label-at .ensures .0) (T .pre .1 .1 .0) (l .places) (l .inv .1) (not-empty found) (x .extend .result) (x .extend .last .1 .1 .1 .0) (x .extend .ensures .1)
 
+  -- the labels are as many words as they came
   abbrev long : length (x .extend .last .0) ≡ length (T .args .labels .now)
-  long = kept T (x .extend .last .0) (head-of found .loop .c + 1) tried
+  long = stands T (x .extend .last .0) (head-of found .loop .c + 1) tried .0
 
 add-end : tie.Need-add-end Inv-loop μ-loop
 add-end c = omega (arith, all-far (c .before .before .before .before))
@@ -259,7 +248,7 @@ loop-again c =
     (passed (T x) (x .extend .last .0) n (tried x) (y .result) (y .ensures), hints x, full (T x) (x .extend .last .0) n (tried x) (y .result) (y .ensures))
 
 same-length-2 : tie.Need-same-length-2 Inv-loop μ-loop
-same-length-2 c = let l = c .before .loop in kept (start-of (c .before)) (l .labels) (l .c) (l .inv .0)
+same-length-2 c = let l = c .before .loop in stands (start-of (c .before)) (l .labels) (l .c) (l .inv .0) .0
 
 returns-2 : tie.Need-returns-2 Inv-loop μ-loop
 returns-2 c = let l = c .before .loop in all-tried (start-of (c .before)) (l .labels) (l .c) (l .inv .0) (omega (arith, l .inv .0 .inside))
