@@ -7,7 +7,7 @@ use native.Mathlib.Omega.{arith}
 use lib.ListN.{length, getD, take, drop, replicate, length-replicate, length-append}
 use lib.Seq.{length-take-le}
 use lib.Dec.{ltb}
-use Rattle.words.specs.Pieces.{part, at, write, join}
+use Rattle.words.specs.Pieces.{part, at, write}
 use Rattle.words.proofs.Choices.{cond-cases}
 use Rattle.words.proofs.Pieces.{piece-end, at-length, join-zero, join-next, join-length}
 use Rattle.words.proofs.Writes.{length-part, part-part, length-write, lent, part-write-inside, part-write-below, drop-write-above, write-part, write-over, write-append}
@@ -153,14 +153,12 @@ module _ (xs ys : List ℕ) (n d prev base : ℕ) (p : Kept-in xs n d prev base)
           }
 
     -- all of them, over what was cleared
-    module _ (e : c ≡ n) where
-      pub all-words : ls ≡ write xs base (keptBlock d n (part xs prev (n * (d + 2))))
-      all-words =
-          g .words
+    pub all-kept : c ≡ n → (ls ≡ write xs base (keptBlock d n (part xs prev (n * (d + 2))))) × Noted d (part xs prev (n * (d + 2))) n filled low high
+    all-kept e = (
+      g .words
           ∙ ap (λ (k : ℕ). write ys base (keptBlock d k F)) e
           ∙ ap (λ (x : List ℕ). write x base (keptBlock d n F)) cleared
           ∙ write-over xs base (replicate (n * (d + 2)) 0) (keptBlock d n F) (le-of-eq (length-replicate (n * (d + 2)) 0 ∙ sym (front-long n (le-refl n))))
-          ∙ ap (λ (x : List ℕ). write xs base (keptBlock d n x)) before-is
-
-      pub all-noted : Noted d (part xs prev (n * (d + 2))) n filled low high
-      all-noted = subst (λ (k : ℕ). Noted d (part xs prev (n * (d + 2))) k filled low high) e (subst (λ (x : List ℕ). Noted d x c filled low high) before-is (g .noted))
+          ∙ ap (λ (x : List ℕ). write xs base (keptBlock d n x)) before-is,
+      subst (λ (k : ℕ). Noted d (part xs prev (n * (d + 2))) k filled low high) e (subst (λ (x : List ℕ). Noted d x c filled low high) before-is (g .noted)),
+    )

@@ -1,6 +1,6 @@
 -- A layer kept block by block, with the notes of each in its place. Assumes nothing.
 use Prim.Native.Nat.{ℕ, _+_, _*_, _≤_, _<_, zero-le}
-use mathlib.Core.Path.{_≡_, refl, sym, ap, ap₂, _∙_, subst}
+use mathlib.Core.Path.{_≡_, refl, sym, ap, _∙_, subst}
 use mathlib.Core.List.{List}
 use native.Mathlib.Nat.{zero-mul, one-mul, add-mul, not-suc-le-zero}
 use native.Mathlib.Omega.{arith}
@@ -122,9 +122,5 @@ module _ (xs fs₀ los₀ his₀ : List ℕ) (m n d prev base : ℕ) (p : Layers
         }
 
   -- all of them
-  module _ (e : v ≡ m) where
-    pub all-words : ls ≡ write xs base (join (keptOf xs m n d prev) m)
-    all-words = g .words ∙ ap (λ (k : ℕ). write xs base (join (keptOf xs m n d prev) k)) e
-
-    pub all-noted : NotedAll d n (part xs prev (m * (n * (d + 2)))) m fs los his
-    all-noted = subst (λ (k : ℕ). NotedAll d n L k fs los his) e (g .noted)
+  pub all-kept : v ≡ m → (ls ≡ write xs base (join (keptOf xs m n d prev) m)) × NotedAll d n (part xs prev (m * (n * (d + 2)))) m fs los his
+  all-kept e = (g .words ∙ ap (λ (k : ℕ). write xs base (join (keptOf xs m n d prev) k)) e, subst (λ (k : ℕ). NotedAll d n L k fs los his) e (g .noted))

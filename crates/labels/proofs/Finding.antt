@@ -118,7 +118,8 @@ module _ (counts : List ℕ) (graded : ℕ) (ladders cand hint : List ℕ) (h : 
             (subst (λ (r : ℕ). Slot (ladderIn counts ladders j) (getD cand j 0) r) (sym new) (subst (λ (p : List ℕ). Slot p (getD cand j 0) found) lent-ladder s));
         below = λ i m. lower i m (ℕ-discrete i j);
         number =
-            ap₂ (λ (x y : ℕ). x * getD counts j 0 + y) (u .number ∙ radix-ext (λ i. getD counts i 0) (λ i. getD places i 0) (λ i. getD (set places j found) i 0) j (λ i m. sym (kept i (λ q. absurd (omega arith))))) (sym new)
+            ap₂ (λ (x y : ℕ). x * getD counts j 0 + y)
+            (u .number ∙ radix-ext (λ i. getD counts i 0) (λ i. getD places i 0) (λ i. getD (set places j found) i 0) j (λ i m. sym (kept i (λ q. absurd (omega arith))))) (sym new)
             ∙ sym (radix-next (λ i. getD counts i 0) (λ i. getD (set places j found) i 0) j);
         later = λ i m. kept i (λ q. absurd (omega arith)) ∙ u .later i (omega arith);
       }

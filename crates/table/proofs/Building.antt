@@ -71,26 +71,24 @@ module _ (R : Req) (ladderRoom labelRoom : ℕ) (e : weigh (buildRows R ladderRo
 -- ---- the answers
 
 module _ (R : Req) (buffer labels : List ℕ) where
-  abbrev verdict : Weighed
-  verdict = weigh (buildRows R (length buffer) (length labels))
+  -- what the rows' verdict makes of the answer and of the two buffers
+  settled : (w : Weighed) → weigh (buildRows R (length buffer) (length labels)) ≡ w → (answer w (tries R (R .hops)) ≡ builtOf R (length buffer) (length labels))
+      × (settle w (write buffer 0 (ladders R)) buffer ≡ laddersAfter R buffer (length labels)) × (settle w (write labels 0 (table R)) labels ≡ labelsAfter R (length buffer) labels)
+  unfolding builtOf laddersAfter labelsAfter
+  settled w e = (
+    sym (ap (λ (w : Weighed). answer w (tries R (R .hops))) e),
+    sym (ap (λ (w : Weighed). settle w (write buffer 0 (ladders R)) buffer) e),
+    sym (ap (λ (w : Weighed). settle w (write labels 0 (table R)) labels) e),
+  )
 
   pub refused-all : (n p : ℕ) → weigh (buildRows R (length buffer) (length labels)) ≡ refused n p
       → (built.Refused (record { number = n; place = p }) ≡ builtOf R (length buffer) (length labels)) × (buffer ≡ laddersAfter R buffer (length labels)) × (labels ≡ labelsAfter R (length buffer) labels)
-  unfolding builtOf laddersAfter labelsAfter
-  refused-all n p e = (
-    sym (ap (λ (w : Weighed). answer w (tries R (R .hops))) e),
-    sym (ap (λ (w : Weighed). settle w (write buffer 0 (ladders R)) buffer) e),
-    sym (ap (λ (w : Weighed). settle w (write labels 0 (table R)) labels) e),
-  )
+  refused-all n p = settled (refused n p)
 
   pub built-all : weigh (buildRows R (length buffer) (length labels)) ≡ clear
-      → (built.Tries (tries R (R .hops)) ≡ builtOf R (length buffer) (length labels)) × (write buffer 0 (ladders R) ≡ laddersAfter R buffer (length labels)) × (write labels 0 (table R) ≡ labelsAfter R (length buffer) labels)
-  unfolding builtOf laddersAfter labelsAfter
-  built-all e = (
-    sym (ap (λ (w : Weighed). answer w (tries R (R .hops))) e),
-    sym (ap (λ (w : Weighed). settle w (write buffer 0 (ladders R)) buffer) e),
-    sym (ap (λ (w : Weighed). settle w (write labels 0 (table R)) labels) e),
-  )
+      → (built.Tries (tries R (R .hops)) ≡ builtOf R (length buffer) (length labels))
+      × (write buffer 0 (ladders R) ≡ laddersAfter R buffer (length labels)) × (write labels 0 (table R) ≡ labelsAfter R (length buffer) labels)
+  built-all = settled clear
 
 -- ---- the shape's numbers
 

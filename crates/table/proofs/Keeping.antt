@@ -1,16 +1,17 @@
 -- What `keep_layer` leaves and notes, as the layer's definitions have it. Assumes nothing.
 use Prim.Native.Nat.{ℕ, _+_, _*_, _≤_}
-use mathlib.Core.Path.{_≡_, refl, sym, ap, ap₂, _∙_, subst}
+use mathlib.Core.Path.{_≡_, refl, ap, ap₂, _∙_, subst}
 use mathlib.Core.List.{List}
-use lib.ListN.{length, getD}
+use lib.ListN.{length}
 use Rattle.words.specs.Pieces.{part, at, write, join}
-use Rattle.request.specs.Request.{Req, asked, width}
+use Rattle.request.specs.Request.{Req, asked}
 use Rattle.request.specs.Shape.{cells}
 use Rattle.rounds.specs.Label.{costs, step, filled, empty, kept}
 use Rattle.rounds.specs.Rounds.{span, block, keepCell, keepBlock, keepAll, filledIn}
-use Rattle.keeping.specs.Kept.{keepWords, keptBlock, filledOf, Noted, NotedAll}
+use Rattle.keeping.specs.Kept.{keepWords, keptBlock, filledOf, NotedAll}
 use Rattle.tries.specs.declared.Frame.{Frame}
-use Rattle.tries.specs.Frame.{Framed, Ranged}
+use Rattle.tries.specs.Frame.{Framed}
+use Rattle.tries.proofs.Frames.{span-is}
 use Rattle.table.specs.Build.{Notes}
 
 -- with d criteria and C cells
@@ -43,6 +44,9 @@ module _ (s : Frame) (arcs ladders : List ℕ) (f : Framed (asked (s .request) a
 
   pub layer-words : s .request .nodes * (s .cells * (s .d + 2)) ≡ s .request .nodes * span (asked (s .request) arcs)
   layer-words = ap (λ (n : ℕ). s .request .nodes * n) block-words
+
+  pub layer-size : s .request .nodes * s .span ≡ s .request .nodes * span (asked (s .request) arcs)
+  layer-size = ap (λ (n : ℕ). s .request .nodes * n) (span-is (asked (s .request) arcs) s ladders f)
 
   module _ (xs : List ℕ) (prev base : ℕ) where
     pub kept-layer : (ls : List ℕ) → ls ≡ write xs base (join (λ v. keptBlock (s .d) (s .cells) (at (s .cells * (s .d + 2)) (part xs prev (s .request .nodes * (s .cells * (s .d + 2)))) v)) (s .request .nodes))

@@ -100,7 +100,7 @@ module _ (R : Req) where
 
     module _ (l : i < R .hops) where
       -- the layers so far, and the next, lie within the buffer
-      pub ends : base + layerWords R + layerWords R ≤ length xs
+      ends : base + layerWords R + layerWords R ≤ length xs
       ends =
           let t = table-length R ok in
           let b = g .begins in
@@ -174,23 +174,22 @@ module _ (R : Req) where
   unfolding table
   all-drawn xs ls base tried i g e = (g .words ∙ ap (λ (n : ℕ). write xs 0 (join (layer R) (n + 1))) e, g .count ∙ ap (tries R) e)
 
+  -- a table holds a layer at least
+  pub one-layer : Regular R → layerWords R ≤ length (table R)
+  one-layer ok =
+      let m : 1 * layerWords R ≤ (R .hops + 1) * layerWords R = mul-le-mul-right (layerWords R) (omega arith) in
+      omega (arith, table-length R ok, one-mul (layerWords R))
+
   -- layer 0 first, and then over it the whole table
   module _ (ok : Regular R) (xs ls : List ℕ) (e : ls ≡ write xs 0 (startLayer R)) (room : length (table R) ≤ length xs) where
-    one-layer : layerWords R ≤ length (table R)
-    one-layer =
-        let t = table-length R ok in
-        let m : 1 * layerWords R ≤ (R .hops + 1) * layerWords R = mul-le-mul-right (layerWords R) (omega arith) in
-        let o = one-mul (layerWords R) in
-        omega arith
-
     pub start-stands : part ls 0 (layerWords R) ≡ startLayer R
     start-stands =
         let n = startLayer-length R in
-        let l = one-layer in
+        let l = one-layer ok in
         ap (λ (x : List ℕ). part x 0 (layerWords R)) e ∙ ap (part (write xs 0 (startLayer R)) 0) (sym n) ∙ part-write-same xs 0 (startLayer R) (omega arith)
 
     pub over-start : write ls 0 (table R) ≡ write xs 0 (table R)
     over-start =
         let n = startLayer-length R in
-        let l = one-layer in
+        let l = one-layer ok in
         ap (λ (x : List ℕ). write x 0 (table R)) e ∙ write-over xs 0 (startLayer R) (table R) (omega arith)

@@ -71,12 +71,15 @@ module _ (R : Req) (xs : List ℕ) (prev base : ℕ) where
 
   -- all arcs
   module _ (ls : List ℕ) (tries a : ℕ) (g : Along ls tries a) (e : a ≡ arcCount R) where
-    pub all-words : ls ≡ write xs base (upTo (arcStep R (part xs prev (layerWords R))) (part xs base (layerWords R)) (arcCount R))
-    all-words = g .words ∙ ap (λ (n : ℕ). write xs base (turned xs prev (layerWords R) base (layerWords R) step n)) e
+    words-are : ls ≡ write xs base (upTo (arcStep R (part xs prev (layerWords R))) (part xs base (layerWords R)) (arcCount R))
+    words-are = g .words ∙ ap (λ (n : ℕ). write xs base (turned xs prev (layerWords R) base (layerWords R) step n)) e
 
-    pub all-tries : tries ≡ roundTries R (part xs prev (layerWords R))
+    tries-are : tries ≡ roundTries R (part xs prev (layerWords R))
     unfolding roundTries
-    all-tries = g .count ∙ ap (total (λ a. filledIn R (block R (part xs prev (layerWords R)) (tail R a)))) e
+    tries-are = g .count ∙ ap (total (λ a. filledIn R (block R (part xs prev (layerWords R)) (tail R a)))) e
+
+    pub all-passed : (ls ≡ write xs base (upTo (arcStep R (part xs prev (layerWords R))) (part xs base (layerWords R)) (arcCount R))) × (tries ≡ roundTries R (part xs prev (layerWords R)))
+    all-passed = (words-are, tries-are)
 
   module _ (ok : Regular R) (p : Layered R xs prev base) (ls : List ℕ) (tries a : ℕ) (g : Along ls tries a) where
     pub along-length : length ls ≡ length xs
@@ -99,7 +102,8 @@ module _ (R : Req) (xs : List ℕ) (prev base : ℕ) where
       head-block = ap (λ (x : ℕ). part ls x (span R)) e-to ∙ block-in R ls base (head R a) (ok .head-in a in-a)
 
       -- the head's block, after the arcs before this one
-      head-now : part xs base (layerWords R) ≡ keepAll R (part xs prev (layerWords R)) → part ls to (span R) ≡ block R (upTo (arcStep R (part xs prev (layerWords R))) (keepAll R (part xs prev (layerWords R))) a) (head R a)
+      head-now : part xs base (layerWords R) ≡ keepAll R (part xs prev (layerWords R))
+          → part ls to (span R) ≡ block R (upTo (arcStep R (part xs prev (layerWords R))) (keepAll R (part xs prev (layerWords R))) a) (head R a)
       head-now kept =
           let size = loop-long xs prev (layerWords R) base (layerWords R) step (p .below) (p .inside) (λ k cur size. step-length (part xs prev (layerWords R)) k cur ∙ size) a in
           head-block
@@ -142,14 +146,17 @@ module _ (R : Req) (xs : List ℕ) (prev base : ℕ) where
           let i = later .inside in
           let X : List ℕ = part ls base (layerWords R) in
           let made : List ℕ = tryArc R (block R (part ls prev (layerWords R)) (tail R a)) a (block R X (head R a)) in
-          let long : length made ≡ span R = tryArc-length R (block R (part ls prev (layerWords R)) (tail R a)) a (block R X (head R a)) ∙ block-length R X (length-part ls base (layerWords R) (omega arith)) (head R a) (ok .head-in a in-a) in
+          let long : length made ≡ span R =
+          tryArc-length R (block R (part ls prev (layerWords R)) (tail R a)) a (block R X (head R a))
+          ∙ block-length R X (length-part ls base (layerWords R) (omega arith)) (head R a) (ok .head-in a in-a) in
           e
           ∙ ap₂ (λ (F G : List ℕ). write ls to (tryArc R F a G)) tail-block head-block
           ∙ ap (λ (x : ℕ). write ls x made) e-to
           ∙ write-nest ls base (layerWords R) (head R a * span R) made (omega arith)
 
       -- arc a joins those before it
-      pub one-arc : (ls′ : List ℕ) (n : ℕ) → ls′ ≡ write ls to (tryArc R (part ls from (span R)) a (part ls to (span R))) → n ≡ filledIn R (block R (part xs prev (layerWords R)) (tail R a)) → Along ls′ (tries + n) (a + 1)
+      pub one-arc : (ls′ : List ℕ) (n : ℕ) → ls′ ≡ write ls to (tryArc R (part ls from (span R)) a (part ls to (span R)))
+          → n ≡ filledIn R (block R (part xs prev (layerWords R)) (tail R a)) → Along ls′ (tries + n) (a + 1)
       one-arc ls′ n e e-n = record {
         inside = omega arith;
         words = loop-turns xs prev (layerWords R) base (layerWords R) step (p .below) (p .inside)

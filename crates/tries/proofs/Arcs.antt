@@ -127,7 +127,7 @@ module _ (R : Req) (ok : Regular R) (fair : Fair (R .rule) (Stays (R .rule))) (x
   }
 
   module _ (ls : List ℕ) (c : ℕ) (g : Along R xs from to a low high ls c) where
-    pub same-length : length ls ≡ length xs
+    same-length : length ls ≡ length xs
     same-length = ap length (g .words) ∙ length-write xs to (now R xs from to a low high c)
 
     pub tail-block : part ls from (span R) ≡ part xs from (span R)
@@ -140,7 +140,7 @@ module _ (R : Req) (ok : Regular R) (fair : Fair (R .rule) (Stays (R .rule))) (x
         ∙ part-write-same xs to (now R xs from to a low high c) (omega (arith, p, now-long c))
 
     -- what was tried stays so
-    pub still-apart : Apart R ls from to a
+    still-apart : Apart R ls from to a
     still-apart = record {
       below = p .below;
       inside = omega (arith, p, same-length);
@@ -150,9 +150,9 @@ module _ (R : Req) (ok : Regular R) (fair : Fair (R .rule) (Stays (R .rule))) (x
           (some-tried R ok fair (part xs from (span R)) tail-whole (p .room) a in-a (part xs to (span R)) head-whole (p .tried) c (omega (arith, g .inside, r .inside))));
     }
 
-    -- and so does the range
-    pub still-ranged : Ranged R (part ls from (span R)) low high
-    still-ranged = subst (λ (F : List ℕ). Ranged R F low high) (sym tail-block) r
+    -- and so do the length and the range
+    pub still : (length ls ≡ length xs) × Apart R ls from to a × Ranged R (part ls from (span R)) low high
+    still = (same-length, still-apart, subst (λ (F : List ℕ). Ranged R F low high) (sym tail-block) r)
 
     -- on to cell n, over cells that are quiet
     pub passed-over : (n : ℕ) → c ≤ n → n ≤ high → ((k : ℕ) → c ≤ k → k < n → Quiet (step R (at (width R) (part ls from (span R)) k))) → Along R xs from to a low high ls n

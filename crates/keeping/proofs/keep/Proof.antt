@@ -2,7 +2,6 @@
 use mathlib.Core.Path.{sym, _∙_}
 use Rattle.keeping.proofs.Keeping.{step-word, keep-empty, keep-filled}
 use borrow.Author.Needs.{needs}
-use native.Mathlib.Omega.{arith}
 use Rattle.keeping.proofs.keep.Statement.{statement}
 use Rattle.keeping.proofs.keep.Tie as tie
 
@@ -25,7 +24,8 @@ returns : tie.Need-returns
 returns c =
     let a = c .before .before .before .before .before .before .before .args in
     let p = c .before .before .before .before .before .before .before .pre in
-    (c .before .before .keep-costs .ensures ∙ keep-filled (a .labels .now) (a .at) (a .to) (a .d) (p .0) (p .1) (c .before .before .before .before .if1 .taken), sym (step-word (a .labels .now) (a .at) (a .to) (a .d) (p .0) (p .1)))
+    let e = keep-filled (a .labels .now) (a .at) (a .to) (a .d) (p .0) (p .1) (c .before .before .before .before .if1 .taken) in
+    (c .before .before .keep-costs .ensures ∙ e, sym (step-word (a .labels .now) (a .at) (a .to) (a .d) (p .0) (p .1)))
 
 returns-2 : tie.Need-returns-2
 returns-2 c =

@@ -17,10 +17,14 @@ add-high : tie.Need-add-high
 add-high c = search needs
 
 returns-3 : tie.Need-returns-3
-returns-3 c = let a = c .before .before .before .before .before .args in first-says (a .n .filled) (a .n .low) (a .n .high) (a .step) (a .c) (c .before .before .before .before .if1 .left) (c .before .before .if2 .left) (c .if3 .taken)
+returns-3 c =
+    let a = c .before .before .before .before .before .args in
+    first-says (a .n .filled) (a .n .low) (a .n .high) (a .step) (a .c) (c .before .before .before .before .if1 .left) (c .before .before .if2 .left) (c .if3 .taken)
 
 returns-4 : tie.Need-returns-4
-returns-4 c = let a = c .before .before .before .before .before .args in more-says (a .n .filled) (a .n .low) (a .n .high) (a .step) (a .c) (c .before .before .before .before .if1 .left) (c .before .before .if2 .left) (c .if3 .left)
+returns-4 c =
+    let a = c .before .before .before .before .before .args in
+    more-says (a .n .filled) (a .n .low) (a .n .high) (a .step) (a .c) (c .before .before .before .before .if1 .left) (c .before .before .if2 .left) (c .if3 .left)
 
 pub note-step-spec : {M : Type 1} → statement M
 note-step-spec =

@@ -34,7 +34,9 @@ shared-slice-read-out-2 : tie.Need-shared-slice-read-out-2 Inv-loop μ-loop
 shared-slice-read-out-2 c = search needs
 
 add-out-2 : tie.Need-add-out-2 Inv-loop μ-loop
-add-out-2 c = let a = c .before .before .before .before .args in let h = c .before .before .before .before .pre .small (c .before .before .before .loop .k) (c .before .before .loop-test .taken) in let e = c .before .before .before .before .pre .arc-long in omega arith
+add-out-2 c =
+    let p = c .before .before .before .before .pre in
+    omega (arith, p .small (c .before .before .before .loop .k) (c .before .before .loop-test .taken), p .arc-long)
 
 mul-out-3 : tie.Need-mul-out-3 Inv-loop μ-loop
 mul-out-3 c = search needs
@@ -80,7 +82,8 @@ returns c =
     let a = c .before .before .args in
     let l = c .before .loop in
     let e : l .k ≡ a .d = omega arith in
-    step-and-from (a .d) (a .out .now) (a .lab .now) (a .arc .now) (c .before .before .pre) (l .out) (a .step) (a .from) (l .inv .1 ∙ ap (λ (n : ℕ). take n (sums (a .d) (a .lab .now) (a .arc .now)) ++ drop n (a .out .now)) e)
+    step-and-from (a .d) (a .out .now) (a .lab .now) (a .arc .now) (c .before .before .pre) (l .out) (a .step) (a .from)
+    (l .inv .1 ∙ ap (λ (n : ℕ). take n (sums (a .d) (a .lab .now) (a .arc .now)) ++ drop n (a .out .now)) e)
 
 pub add-costs-spec : {M : Type 1} → statement M
 add-costs-spec =

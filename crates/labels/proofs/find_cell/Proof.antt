@@ -5,7 +5,7 @@ use mathlib.Core.List.{List}
 use lib.ListN.{getD}
 use Rattle.words.specs.Radix.{radix}
 use Rattle.fences.specs.Answer.{Bracket}
-use Rattle.labels.proofs.Finding.{Upto, none-yet, here, lent-ladder, lent-length, found-lt, one-more}
+use Rattle.labels.proofs.Finding.{Upto, none-yet, Here, here, lent-ladder, lent-length, found-lt, one-more}
 use borrow.Author.Needs.{needs}
 use native.Mathlib.Omega.{arith}
 use Rattle.labels.proofs.find_cell.Statement.{statement}
@@ -17,51 +17,38 @@ Inv-loop cand ladders places₀ graded counts cell₀ at₀ j₀ places cell at 
 abbrev μ-loop : tie.MeasureT-loop
 μ-loop cand ladders places₀ graded counts cell₀ at₀ j₀ places cell at j = graded - j
 
+-- in the loop
+module _ (b : tie.In-loop Inv-loop μ-loop) where
+  abbrev start-of : tie.Start Inv-loop μ-loop
+  start-of = b .before .before .before .before .before
+
+  -- what is known of criterion j: its ladder lies in the buffer, its cost and place in theirs
+  known :
+      let a = start-of .args in
+      let l = b .before .loop in
+      Here (a .t4) (a .graded) (a .ladders .now) (a .cand .now) (a .places .now) (start-of .pre) (l .places) (l .cell) (l .at) (l .j) (l .inv) (b .loop-test .taken)
+  known =
+      let a = start-of .args in
+      let l = b .before .loop in
+      here (a .t4) (a .graded) (a .ladders .now) (a .cand .now) (a .places .now) (start-of .pre) (l .places) (l .cell) (l .at) (l .j) (l .inv) (b .loop-test .taken)
+
 loop-holds : tie.Need-loop-holds Inv-loop μ-loop
-loop-holds c =
-    let a = c .before .before .before .args in
-    let p = c .before .before .before .pre in
-    none-yet (a .t4) (a .graded) (a .ladders .now) (a .cand .now) (a .places .now) p
+loop-holds c = let s = c .before .before .before in none-yet (s .args .t4) (s .args .graded) (s .args .ladders .now) (s .args .cand .now) (s .args .places .now) (s .pre)
 
 mul-size : tie.Need-mul-size Inv-loop μ-loop
-mul-size c =
-    let a = c .before .before .before .before .before .args in
-    let p = c .before .before .before .before .before .pre in
-    let l = c .before .loop in
-    let t = c .loop-test .taken in
-    omega (arith, here (a .t4) (a .graded) (a .ladders .now) (a .cand .now) (a .places .now) p (l .places) (l .cell) (l .at) (l .j) (l .inv) t)
+mul-size c = omega (arith, known c)
 
 array-read-size : tie.Need-array-read-size Inv-loop μ-loop
-array-read-size c =
-    let a = c .before .before .before .before .before .args in
-    let p = c .before .before .before .before .before .pre in
-    let l = c .before .loop in
-    let t = c .loop-test .taken in
-    omega (arith, here (a .t4) (a .graded) (a .ladders .now) (a .cand .now) (a .places .now) p (l .places) (l .cell) (l .at) (l .j) (l .inv) t)
+array-read-size c = omega (arith, known c)
 
 add-end : tie.Need-add-end Inv-loop μ-loop
-add-end c =
-    let a = c .before .before .before .before .before .args in
-    let p = c .before .before .before .before .before .pre in
-    let l = c .before .loop in
-    let t = c .loop-test .taken in
-    omega (arith, here (a .t4) (a .graded) (a .ladders .now) (a .cand .now) (a .places .now) p (l .places) (l .cell) (l .at) (l .j) (l .inv) t)
+add-end c = omega (arith, known c)
 
 add-end-2 : tie.Need-add-end-2 Inv-loop μ-loop
-add-end-2 c =
-    let a = c .before .before .before .before .before .args in
-    let p = c .before .before .before .before .before .pre in
-    let l = c .before .loop in
-    let t = c .loop-test .taken in
-    omega (arith, here (a .t4) (a .graded) (a .ladders .now) (a .cand .now) (a .places .now) p (l .places) (l .cell) (l .at) (l .j) (l .inv) t)
+add-end-2 c = omega (arith, known c)
 
 mul-seek : tie.Need-mul-seek Inv-loop μ-loop
-mul-seek c =
-    let a = c .before .before .before .before .before .args in
-    let p = c .before .before .before .before .before .pre in
-    let l = c .before .loop in
-    let t = c .loop-test .taken in
-    omega (arith, here (a .t4) (a .graded) (a .ladders .now) (a .cand .now) (a .places .now) p (l .places) (l .cell) (l .at) (l .j) (l .inv) t)
+mul-seek c = omega (arith, known c)
 
 sub-seek : tie.Need-sub-seek Inv-loop μ-loop
 sub-seek c = search needs
@@ -70,122 +57,67 @@ part-seek-start : tie.Need-part-seek-start Inv-loop μ-loop
 part-seek-start c = search needs
 
 part-seek-end : tie.Need-part-seek-end Inv-loop μ-loop
-part-seek-end c =
-    let a = c .before .before .before .before .before .args in
-    let p = c .before .before .before .before .before .pre in
-    let l = c .before .loop in
-    let t = c .loop-test .taken in
-    omega (arith, here (a .t4) (a .graded) (a .ladders .now) (a .cand .now) (a .places .now) p (l .places) (l .cell) (l .at) (l .j) (l .inv) t)
+part-seek-end c = omega (arith, known c)
 
 mul-seek-2 : tie.Need-mul-seek-2 Inv-loop μ-loop
-mul-seek-2 c =
-    let a = c .before .before .before .before .before .before .args in
-    let p = c .before .before .before .before .before .before .pre in
-    let l = c .before .before .loop in
-    let t = c .before .loop-test .taken in
-    omega (arith, here (a .t4) (a .graded) (a .ladders .now) (a .cand .now) (a .places .now) p (l .places) (l .cell) (l .at) (l .j) (l .inv) t)
+mul-seek-2 c = omega (arith, known (c .before))
 
 shared-slice-read-seek : tie.Need-shared-slice-read-seek Inv-loop μ-loop
-shared-slice-read-seek c =
-    let a = c .before .before .before .before .before .before .before .args in
-    let p = c .before .before .before .before .before .before .before .pre in
-    let l = c .before .before .before .loop in
-    let t = c .before .before .loop-test .taken in
-    omega (arith, here (a .t4) (a .graded) (a .ladders .now) (a .cand .now) (a .places .now) p (l .places) (l .cell) (l .at) (l .j) (l .inv) t)
+shared-slice-read-seek c = omega (arith, known (c .before .before))
 
 mul-seek-3 : tie.Need-mul-seek-3 Inv-loop μ-loop
-mul-seek-3 c =
-    let a = c .before .before .before .before .before .before .before .args in
-    let p = c .before .before .before .before .before .before .before .pre in
-    let l = c .before .before .before .loop in
-    let t = c .before .before .loop-test .taken in
-    omega (arith, here (a .t4) (a .graded) (a .ladders .now) (a .cand .now) (a .places .now) p (l .places) (l .cell) (l .at) (l .j) (l .inv) t)
+mul-seek-3 c = omega (arith, known (c .before .before))
 
 slice-read-seek : tie.Need-slice-read-seek Inv-loop μ-loop
-slice-read-seek c =
-    let a = c .before .before .before .before .before .before .before .before .args in
-    let p = c .before .before .before .before .before .before .before .before .pre in
-    let l = c .before .before .before .before .loop in
-    let t = c .before .before .before .loop-test .taken in
-    omega (arith, here (a .t4) (a .graded) (a .ladders .now) (a .cand .now) (a .places .now) p (l .places) (l .cell) (l .at) (l .j) (l .inv) t)
+slice-read-seek c = omega (arith, known (c .before .before .before))
 
 seek-requires : tie.Need-seek-requires Inv-loop μ-loop
 seek-requires c κs =
-    let a = c .before .before .before .before .before .before .before .before .args in
-    let p = c .before .before .before .before .before .before .before .before .pre in
-    let l = c .before .before .before .before .loop in
-    let t = c .before .before .before .loop-test .taken in
-    let e = lent-ladder (a .t4) (a .graded) (a .ladders .now) (a .cand .now) (a .places .now) p (l .places) (l .cell) (l .at) (l .j) (l .inv) t in
-    let n = lent-length (a .t4) (a .graded) (a .ladders .now) (a .cand .now) (a .places .now) p (l .places) (l .cell) (l .at) (l .j) (l .inv) t in
-    (subst (λ (x : List ℕ). Bracket x (getD (a .cand .now) (l .j) 0) 0) (sym e) (p .inside (l .j) t), omega (arith, n, l .inv .below (l .j) t))
+    let b = c .before .before .before in
+    let s = start-of b in
+    let a = s .args in
+    let l = b .before .loop in
+    let t = b .loop-test .taken in
+    let e = lent-ladder (a .t4) (a .graded) (a .ladders .now) (a .cand .now) (a .places .now) (s .pre) (l .places) (l .cell) (l .at) (l .j) (l .inv) t in
+    let n = lent-length (a .t4) (a .graded) (a .ladders .now) (a .cand .now) (a .places .now) (s .pre) (l .places) (l .cell) (l .at) (l .j) (l .inv) t in
+    (subst (λ (x : List ℕ). Bracket x (getD (a .cand .now) (l .j) 0) 0) (sym e) (s .pre .inside (l .j) t), omega (arith, n, l .inv .below (l .j) t))
 
 mul-places : tie.Need-mul-places Inv-loop μ-loop
-mul-places c =
-    let a = c .before .before .before .before .before .before .before .before .before .args in
-    let p = c .before .before .before .before .before .before .before .before .before .pre in
-    let l = c .before .before .before .before .before .loop in
-    let t = c .before .before .before .before .loop-test .taken in
-    omega (arith, here (a .t4) (a .graded) (a .ladders .now) (a .cand .now) (a .places .now) p (l .places) (l .cell) (l .at) (l .j) (l .inv) t)
+mul-places c = omega (arith, known (c .before .before .before .before))
 
 slice-write-places : tie.Need-slice-write-places Inv-loop μ-loop
-slice-write-places c =
-    let a = c .before .before .before .before .before .before .before .before .before .args in
-    let p = c .before .before .before .before .before .before .before .before .before .pre in
-    let l = c .before .before .before .before .before .loop in
-    let t = c .before .before .before .before .loop-test .taken in
-    omega (arith, here (a .t4) (a .graded) (a .ladders .now) (a .cand .now) (a .places .now) p (l .places) (l .cell) (l .at) (l .j) (l .inv) t)
+slice-write-places c = omega (arith, known (c .before .before .before .before))
 
 mul-cell : tie.Need-mul-cell Inv-loop μ-loop
-mul-cell c =
-    let a = c .before .before .before .before .before .before .before .before .before .args in
-    let p = c .before .before .before .before .before .before .before .before .before .pre in
-    let l = c .before .before .before .before .before .loop in
-    let t = c .before .before .before .before .loop-test .taken in
-    omega (arith, here (a .t4) (a .graded) (a .ladders .now) (a .cand .now) (a .places .now) p (l .places) (l .cell) (l .at) (l .j) (l .inv) t)
+mul-cell c = omega (arith, known (c .before .before .before .before))
 
 add-cell : tie.Need-add-cell Inv-loop μ-loop
 add-cell c =
-    let a = c .before .before .before .before .before .before .before .before .before .args in
-    let p = c .before .before .before .before .before .before .before .before .before .pre in
-    let l = c .before .before .before .before .before .loop in
-    let t = c .before .before .before .before .loop-test .taken in
-    omega (arith, here (a .t4) (a .graded) (a .ladders .now) (a .cand .now) (a .places .now) p (l .places) (l .cell) (l .at) (l .j) (l .inv) t, found-lt (a .t4) (a .graded) (a .ladders .now) (a .cand .now) (a .places .now) p (l .places) (l .cell) (l .at) (l .j) (l .inv) t (c .seek .result) (c .seek .ensures))
+    let b = c .before .before .before .before in
+    let a = start-of b .args in
+    let l = b .before .loop in
+    let less = found-lt (a .t4) (a .graded) (a .ladders .now) (a .cand .now) (a .places .now) (start-of b .pre) (l .places) (l .cell) (l .at) (l .j) (l .inv) (b .loop-test .taken) (c .seek .result) (c .seek .ensures) in
+    omega (arith, known b, less)
 
 add-j : tie.Need-add-j Inv-loop μ-loop
-add-j c =
-    let a = c .before .before .before .before .before .before .before .before .before .args in
-    let p = c .before .before .before .before .before .before .before .before .before .pre in
-    let l = c .before .before .before .before .before .loop in
-    let t = c .before .before .before .before .loop-test .taken in
-    omega (arith, here (a .t4) (a .graded) (a .ladders .now) (a .cand .now) (a .places .now) p (l .places) (l .cell) (l .at) (l .j) (l .inv) t)
+add-j c = omega (arith, known (c .before .before .before .before))
 
 loop-less : tie.Need-loop-less Inv-loop μ-loop
-loop-less c =
-    let a = c .before .before .before .before .before .before .before .before .before .args in
-    let p = c .before .before .before .before .before .before .before .before .before .pre in
-    let l = c .before .before .before .before .before .loop in
-    let t = c .before .before .before .before .loop-test .taken in
-    omega (arith, t)
+loop-less c = omega (arith, c .before .before .before .before .loop-test .taken)
 
 loop-again : tie.Need-loop-again Inv-loop μ-loop
 loop-again c =
-    let a = c .before .before .before .before .before .before .before .before .before .args in
-    let p = c .before .before .before .before .before .before .before .before .before .pre in
-    let l = c .before .before .before .before .before .loop in
-    let t = c .before .before .before .before .loop-test .taken in
-    one-more (a .t4) (a .graded) (a .ladders .now) (a .cand .now) (a .places .now) p (l .places) (l .cell) (l .at) (l .j) (l .inv) t (c .seek .result) (c .seek .ensures)
+    let b = c .before .before .before .before in
+    let a = start-of b .args in
+    let l = b .before .loop in
+    one-more (a .t4) (a .graded) (a .ladders .now) (a .cand .now) (a .places .now) (start-of b .pre) (l .places) (l .cell) (l .at) (l .j) (l .inv) (b .loop-test .taken) (c .seek .result) (c .seek .ensures)
 
 same-length : tie.Need-same-length Inv-loop μ-loop
-same-length c =
-    let a = c .before .before .before .before .before .args in
-    let p = c .before .before .before .before .before .pre in
-    let l = c .before .loop in
-    omega (arith, l .inv .two, p .two)
+same-length c = omega (arith, c .before .loop .inv .two, c .before .before .before .before .before .pre .two)
 
 returns : tie.Need-returns Inv-loop μ-loop
 returns c =
     let a = c .before .before .before .before .before .args in
-    let p = c .before .before .before .before .before .pre in
     let l = c .before .loop in
     let u = l .inv in
     let e : l .j ≡ a .graded = omega (arith, u .inside) in (

@@ -18,13 +18,16 @@ enum-known-checked-2 : tie.Need-enum-known-checked-2
 enum-known-checked-2 c = search needs
 
 build-shaped-requires : tie.Need-build-shaped-requires
-build-shaped-requires c κs = let a = c .before .before .before .before .before .before .before .before .before .args in shaped-is (asked (a .request) (a .arcs .now)) _ (sym (c .before .before .before .checked2 .given .1) ∙ c .before .before .before .before .before .check .ensures)
+build-shaped-requires c κs =
+    let a = c .before .before .before .before .before .before .before .before .before .args in
+    shaped-is (asked (a .request) (a .arcs .now)) _ (sym (c .before .before .before .checked2 .given .1) ∙ c .before .before .before .before .before .check .ensures)
 
 returns : tie.Need-returns
 returns c =
     let a = c .before .before .before .before .before .before .before .args in
     let R = asked (a .request) (a .arcs .now) in
-    let r = refused-all R (a .ladders .now) (a .labels .now) _ _ (refused-early R (length (a .ladders .now)) (length (a .labels .now)) _ _ (refused-is R (c .before .checked .given .0 .0) (sym (c .before .checked .given .1) ∙ c .before .before .before .check .ensures))) in
+    let e = refused-is R (c .before .checked .given .0 .0) (sym (c .before .checked .given .1) ∙ c .before .before .before .check .ensures) in
+    let r = refused-all R (a .ladders .now) (a .labels .now) _ _ (refused-early R (length (a .ladders .now)) (length (a .labels .now)) _ _ e) in
     (r .0, (r .1, r .2))
 
 same-length : tie.Need-same-length

@@ -12,7 +12,7 @@ use Rattle.table.proofs.ladder_words.Tie as tie
 
 one : (b1 b2 : ℕ) → ladderWords b1 b2 1 ≡ b1 + 1
 unfolding ladderWords
-one b1 b2 = let f : ℕ → ℕ = λ j. getD (b1 ∷ b2 ∷ []) j 0 + 1 in let z = total-zero (λ j. getD (b1 ∷ b2 ∷ []) j 0 + 1) in total-suc (λ j. getD (b1 ∷ b2 ∷ []) j 0 + 1) 0 ∙ omega arith
+one b1 b2 = total-suc (λ j. getD (b1 ∷ b2 ∷ []) j 0 + 1) 0 ∙ omega (arith, total-zero (λ j. getD (b1 ∷ b2 ∷ []) j 0 + 1))
 
 two : (b1 b2 : ℕ) → ladderWords b1 b2 2 ≡ b1 + 1 + (b2 + 1)
 unfolding ladderWords
@@ -37,7 +37,10 @@ add-result-2 : tie.Need-add-result-2
 add-result-2 c = search needs
 
 returns-2 : tie.Need-returns-2
-returns-2 c = let a = c .before .before .before .args in let p = c .before .before .before .pre in let n = c .before .if1 .left in let e : a .d - 1 ≡ 2 = omega arith in sym (ap (ladderWords (a .shape .b1) (a .shape .b2)) e ∙ two (a .shape .b1) (a .shape .b2))
+returns-2 c =
+    let a = c .before .before .before .args in
+    let e : a .d - 1 ≡ 2 = omega (arith, c .before .before .before .pre, c .before .if1 .left) in
+    sym (ap (ladderWords (a .shape .b1) (a .shape .b2)) e ∙ two (a .shape .b1) (a .shape .b2))
 
 pub ladder-words-spec : {M : Type 1} → statement M
 ladder-words-spec =

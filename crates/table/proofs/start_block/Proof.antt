@@ -31,7 +31,9 @@ same-length : tie.Need-same-length
 same-length c = search needs
 
 returns : tie.Need-returns
-returns c = let a = c .before .before .before .before .before .before .args in ap (λ (l : List ℕ). set l (a .d) 1) (c .before .before .before .clear .ensures) ∙ here-is (length (a .block .now)) (a .d) (a .here) (c .if1 .taken)
+returns c =
+    let a = c .before .before .before .before .before .before .args in
+    ap (λ (l : List ℕ). set l (a .d) 1) (c .before .before .before .clear .ensures) ∙ here-is (length (a .block .now)) (a .d) (a .here) (c .if1 .taken)
 
 same-length-2 : tie.Need-same-length-2
 same-length-2 c = search needs

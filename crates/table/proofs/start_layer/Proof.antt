@@ -1,6 +1,6 @@
 -- `start_layer`. The loop's invariant: the blocks before v stand at the front, and end at `at`. Assumes nothing.
 use mathlib.Core.Path.{_≡_, sym, ap, _∙_}
-use Prim.Native.Nat.{ℕ, _+_, _-_, _*_, _≤_, zero-le}
+use Prim.Native.Nat.{ℕ, _+_, _-_, _*_, _≤_, _<_, zero-le}
 use native.Mathlib.Nat.{zero-mul, add-mul, one-mul}
 use mathlib.Core.List.{List}
 use lib.ListN.{length}
@@ -28,26 +28,31 @@ Inv-loop labels₀ n source d span at₀ v₀ labels at v = (v ≤ n) × (at ≡
 abbrev μ-loop : tie.MeasureT-loop
 μ-loop labels₀ n source d span at₀ v₀ labels at v = n - v
 
+-- at the head of the loop
+module _ (l : tie.At-loop Inv-loop μ-loop) where
+  abbrev start-of : tie.Start Inv-loop μ-loop
+  start-of = l .before .before
+
+  -- the blocks of the layer
+  abbrev blocks : ℕ → List ℕ
+  blocks v = startWords (start-of .args .span) (start-of .args .d) (eqb v (start-of .args .source))
+
+  -- the labels are as many words as they came
+  kept : length (l .loop .labels) ≡ length (start-of .args .labels .now)
+  kept = ap length (l .loop .inv .2) ∙ length-write (start-of .args .labels .now) 0 (join blocks (l .loop .v))
+
+  -- in the loop there is room for block v
+  room : l .loop .v < start-of .args .n → l .loop .at + start-of .args .span ≤ length (l .loop .labels)
+  room t = omega (arith, piece-end (start-of .args .span) (start-of .args .n) (l .loop .v) t, l .loop .inv .1, start-of .pre, kept)
+
 loop-holds : tie.Need-loop-holds Inv-loop μ-loop
 loop-holds c = let a = c .before .args in (zero-le, sym (zero-mul (a .span)), none (a .labels .now) (λ v. startWords (a .span) (a .d) (eqb v (a .source))))
 
 add-end : tie.Need-add-end Inv-loop μ-loop
-add-end c =
-    let a = c .before .before .before .args in
-    let l = c .before .loop in
-    let h = piece-end (a .span) (a .n) (l .v) (c .loop-test .taken) in
-    let p = c .before .before .before .pre in
-    let m = ap length (l .inv .2) ∙ length-write (a .labels .now) 0 (join (λ v. startWords (a .span) (a .d) (eqb v (a .source))) (l .v)) in
-    omega arith
+add-end c = omega (arith, room (c .before) (c .loop-test .taken), kept (c .before))
 
 mul-start-block : tie.Need-mul-start-block Inv-loop μ-loop
-mul-start-block c =
-    let a = c .before .before .before .args in
-    let l = c .before .loop in
-    let h = piece-end (a .span) (a .n) (l .v) (c .loop-test .taken) in
-    let p = c .before .before .before .pre in
-    let m = ap length (l .inv .2) ∙ length-write (a .labels .now) 0 (join (λ v. startWords (a .span) (a .d) (eqb v (a .source))) (l .v)) in
-    omega arith
+mul-start-block c = omega (arith, room (c .before) (c .loop-test .taken), kept (c .before))
 
 sub-start-block : tie.Need-sub-start-block Inv-loop μ-loop
 sub-start-block c = search needs
@@ -56,24 +61,15 @@ part-start-block-start : tie.Need-part-start-block-start Inv-loop μ-loop
 part-start-block-start c = search needs
 
 part-start-block-end : tie.Need-part-start-block-end Inv-loop μ-loop
-part-start-block-end c =
-    let a = c .before .before .before .args in
-    let l = c .before .loop in
-    let h = piece-end (a .span) (a .n) (l .v) (c .loop-test .taken) in
-    let p = c .before .before .before .pre in
-    let m = ap length (l .inv .2) ∙ length-write (a .labels .now) 0 (join (λ v. startWords (a .span) (a .d) (eqb v (a .source))) (l .v)) in
-    omega arith
+part-start-block-end c = room (c .before) (c .loop-test .taken)
 
 start-block-requires : tie.Need-start-block-requires Inv-loop μ-loop
 start-block-requires c κs =
-    let a = c .before .before .before .before .args in
-    let l = c .before .before .loop in
-    let h = piece-end (a .span) (a .n) (l .v) (c .before .loop-test .taken) in
-    let p = c .before .before .before .before .pre in
-    let m = ap length (l .inv .2) ∙ length-write (a .labels .now) 0 (join (λ v. startWords (a .span) (a .d) (eqb v (a .source))) (l .v)) in
-    let e : l .at + a .span - l .at ≡ a .span = omega arith in
-    let g = length-part (l .labels) (l .at) (l .at + a .span - l .at) (omega arith) in
-    omega arith
+    let l = c .before .before in
+    let a = start-of l .args in
+    let r = room l (c .before .loop-test .taken) in
+    let e : l .loop .at + a .span - l .loop .at ≡ a .span = omega arith in
+    omega (arith, e, start-of l .pre, length-part (l .loop .labels) (l .loop .at) (l .loop .at + a .span - l .loop .at) (omega arith))
 
 add-v : tie.Need-add-v Inv-loop μ-loop
 add-v c = search needs
@@ -83,26 +79,26 @@ loop-less c = search needs
 
 loop-again : tie.Need-loop-again Inv-loop μ-loop
 loop-again c =
-    let a = c .before .before .before .before .before .before .before .args in
-    let l = c .before .before .before .before .before .loop in
-    let h = piece-end (a .span) (a .n) (l .v) (c .before .before .before .before .loop-test .taken) in
-    let p = c .before .before .before .before .before .before .before .pre in
-    let m = ap length (l .inv .2) ∙ length-write (a .labels .now) 0 (join (λ v. startWords (a .span) (a .d) (eqb v (a .source))) (l .v)) in
+    let h = c .before .before .before .before .before in
+    let a = start-of h .args in
+    let l = h .loop in
+    let x = c .before .before .start-block in
+    let r = room h (c .before .before .before .before .loop-test .taken) in
     let e : l .at + a .span - l .at ≡ a .span = omega arith in (
-      omega arith,
+      omega (arith, c .before .before .before .before .loop-test .taken),
       next-end (l .v) (a .span) (l .at) (l .inv .1),
-      one-block (a .labels .now) (l .labels) (c .before .before .start-block .last .0) (a .source) (a .d) (l .at) (l .at + a .span - l .at) (l .v) (a .span) (l .inv .2) (l .inv .1) e (omega arith) (c .before .before .start-block .ensures) m,
+      one-block (a .labels .now) (l .labels) (x .last .0) (a .source) (a .d) (l .at) (l .at + a .span - l .at) (l .v) (a .span) (l .inv .2) (l .inv .1) e (omega (arith, kept h)) (x .ensures) (kept h),
     )
 
 same-length : tie.Need-same-length Inv-loop μ-loop
-same-length c = let a = c .before .before .before .args in let l = c .before .loop in ap length (l .inv .2) ∙ length-write (a .labels .now) 0 (join (λ v. startWords (a .span) (a .d) (eqb v (a .source))) (l .v))
+same-length c = kept (c .before)
 
 returns : tie.Need-returns Inv-loop μ-loop
 returns c =
-    let a = c .before .before .before .args in
+    let a = start-of (c .before) .args in
     let l = c .before .loop in
     let e : l .v ≡ a .n = omega arith in
-    l .inv .2 ∙ ap (λ (n : ℕ). write (a .labels .now) 0 (join (λ v. startWords (a .span) (a .d) (eqb v (a .source))) n)) e
+    l .inv .2 ∙ ap (λ (n : ℕ). write (a .labels .now) 0 (join (blocks (c .before)) n)) e
 
 pub start-layer-spec : {M : Type 1} → statement M
 start-layer-spec =
