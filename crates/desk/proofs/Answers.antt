@@ -7,6 +7,7 @@ use lib.ListN.{length, length-append}
 use lib.Dec.{eqb, ltb, nltb→le}
 use Rattle.words.specs.Rows.{Weighed}
 use Rattle.words.proofs.Choices.{cond-cases}
+use Rattle.request.specs.Rows.{arcWordsRow}
 use Rattle.request.specs.declared.Request.{Request}
 use Rattle.sheet.specs.Grammar.{Contents, whole, broken, lf, sheetOf}
 use Rattle.sheet.specs.Answer.{told}
@@ -60,7 +61,7 @@ read-answer s room =
 -- ---- the writer
 
 pub write-answer : (r : Request) (words : List ℕ) (room : ℕ) → Answer (writeSays r words room)
-unfolding writeSays
+unfolding writeSays arcWordsRow
 write-answer r words room =
     let n = length (written r words) in
     table-answer (λ (w : Weighed). told w n) n refl refusal-said (writerRows r words room) (sound-listed (writerRows r words room) tt) (λ e. omega (arith, writable r words room e .short))

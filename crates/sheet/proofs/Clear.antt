@@ -6,11 +6,12 @@ use mathlib.Core.Bool.{Bool, true, false, not, _||_, false≢true}
 use native.Mathlib.Omega.{arith}
 use lib.ListN.{length}
 use lib.Dec.{ltb, eqb}
-use borrow.Author.Tests.{ltb-false, eqb-true}
+use borrow.Author.Tests.{ltb-false}
 use Rattle.words.specs.Rows.{Row, Weighed, clear, refused, weigh, row, NoneHolds}
 use Rattle.words.proofs.Rows.{clear-none}
-use Rattle.words.proofs.Choices.{is-false, not-false}
+use Rattle.words.proofs.Choices.{is-false}
 use Rattle.request.specs.declared.Request.{Request}
+use Rattle.request.specs.Rows.{outside, arcWordsRow}
 use Rattle.text.specs.Number.{anyOver}
 use Rattle.sheet.specs.Grammar.{Contents, whole, broken, sheetOf}
 use Rattle.sheet.specs.Answer.{told}
@@ -74,17 +75,18 @@ pub record Writable (r : Request) (words : List ℕ) (room : ℕ) : Type 0 where
 
 -- no row holds, so each test came out false
 pub writable : (r : Request) (words : List ℕ) (room : ℕ) → weigh (writerRows r words room) ≡ clear → Writable r words room
+unfolding outside arcWordsRow
 writable r words room e =
     let rows = writerRows r words room in
     let w = r .criteria + 2 in
     let three = or-false (ltb (r .criteria) 2) (ltb 3 (r .criteria)) (passed rows e 0 (omega arith)) in
-    let seven = or-false (not (eqb (length words % w) 0)) (ltb 512 (length words / w)) (passed rows e 1 (omega arith)) in
+    let seven = or-false (ltb 0 (length words % w)) (ltb 512 (length words / w)) (passed rows e 1 (omega arith)) in
     record {
       ranged =
           record {
             at-least = ltb-false (r .criteria) 2 (three .0);
             at-most = ltb-false 3 (r .criteria) (three .1);
-            multiple = eqb-true (length words % w) 0 (not-false (eqb (length words % w) 0) (seven .0));
+            multiple = (let h = ltb-false 0 (length words % w) (seven .0) in omega arith);
             arcs = ltb-false 512 (length words / w) (seven .1);
           };
       small = passed rows e 2 (omega arith);

@@ -6,12 +6,13 @@ use mathlib.Core.Bool.{Bool, true, false, not, _||_}
 use native.Mathlib.Omega.{arith}
 use lib.ListN.{length, drop}
 use lib.Dec.{ltb, eqb}
-use borrow.Author.Tests.{lt-ltb, le-ltb, ne-eqb, eq-eqb}
+use borrow.Author.Tests.{lt-ltb, le-ltb}
 use Rattle.words.specs.Pieces.{write}
 use Rattle.words.specs.Rows.{Row, clear, refused, weigh}
 use Rattle.words.proofs.Rows.{weigh-held, weigh-passed, weigh-none}
 use Rattle.words.proofs.Choices.{true-is, false-is}
 use Rattle.request.specs.declared.Request.{Request}
+use Rattle.request.specs.Rows.{outside, arcWordsRow}
 use Rattle.text.specs.Number.{anyOver}
 use Rattle.sheet.specs.declared.Writing.{Writing}
 use Rattle.sheet.specs.declared.Writing.the-variants.{Bytes, Refused}
@@ -61,34 +62,40 @@ module _ (r : Request) (words sheet : List ℕ) where
 
   -- row 3
   pub writes-few : r .criteria < 2 → Writes (refusedWriting 3 0) sheet
+  unfolding outside
   writes-few h = refuses 3 0 (weigh-held _ _ (true-is (either-true (ltb (r .criteria) 2) (ltb 3 (r .criteria)) (lt-ltb (r .criteria) 2 h))))
 
   -- row 3, for d over 3
   pub writes-many : 3 < r .criteria → Writes (refusedWriting 3 0) sheet
+  unfolding outside
   writes-many h =
       refuses 3 0 (weigh-held _ _ (true-is (ap (λ (t : Bool). ltb (r .criteria) 2 || t) (lt-ltb 3 (r .criteria) h) ∙ or-true (ltb (r .criteria) 2))))
 
   module _ (lo : 2 ≤ r .criteria) (hi : r .criteria ≤ 3) where
     past-d : weigh rows ≡ weigh (drop 1 rows)
+    unfolding outside
     past-d = weigh-passed _ _ (false-is (neither-true (ltb (r .criteria) 2) (ltb 3 (r .criteria)) (le-ltb (r .criteria) 2 lo) (le-ltb 3 (r .criteria) hi)))
 
     -- row 7
     pub writes-odd : (length words % (r .criteria + 2) ≡ 0 → ⊥) → Writes (refusedWriting 7 0) sheet
+    unfolding arcWordsRow
     writes-odd h =
-        refuses 7 0 (past-d ∙ weigh-held _ _ (true-is (either-true (not (eqb (length words % (r .criteria + 2)) 0)) (ltb 512 (length words / (r .criteria + 2))) (ap not (ne-eqb (length words % (r .criteria + 2)) 0 h)))))
+        refuses 7 0 (past-d ∙ weigh-held _ _ (true-is (either-true (ltb 0 (length words % (r .criteria + 2))) (ltb 512 (length words / (r .criteria + 2))) (lt-ltb 0 (length words % (r .criteria + 2)) (omega arith)))))
 
     pub writes-crowded : 512 < length words / (r .criteria + 2) → Writes (refusedWriting 7 0) sheet
+    unfolding arcWordsRow
     writes-crowded h =
         refuses 7 0
         (past-d
-        ∙ weigh-held _ _ (true-is (ap (λ (t : Bool). not (eqb (length words % (r .criteria + 2)) 0) || t) (lt-ltb 512 (length words / (r .criteria + 2)) h) ∙ or-true (not (eqb (length words % (r .criteria + 2)) 0)))))
+        ∙ weigh-held _ _ (true-is (ap (λ (t : Bool). ltb 0 (length words % (r .criteria + 2)) || t) (lt-ltb 512 (length words / (r .criteria + 2)) h) ∙ or-true (ltb 0 (length words % (r .criteria + 2))))))
 
   module _ (g : Ranged (r .criteria) words) where
     past-arcs : weigh rows ≡ weigh (drop 2 rows)
+    unfolding arcWordsRow
     past-arcs =
         past-d (g .at-least) (g .at-most)
-        ∙ weigh-passed _ _ (false-is (neither-true (not (eqb (length words % (r .criteria + 2)) 0)) (ltb 512 (length words / (r .criteria + 2)))
-        (ap not (eq-eqb (length words % (r .criteria + 2)) 0 (g .multiple))) (le-ltb 512 (length words / (r .criteria + 2)) (g .arcs))))
+        ∙ weigh-passed _ _ (false-is (neither-true (ltb 0 (length words % (r .criteria + 2))) (ltb 512 (length words / (r .criteria + 2)))
+        (le-ltb 0 (length words % (r .criteria + 2)) (omega (arith, g .multiple))) (le-ltb 512 (length words / (r .criteria + 2)) (g .arcs))))
 
     -- row 11
     pub writes-large : anyOver (numbersOf r words) ≡ true → Writes (refusedWriting 11 0) sheet

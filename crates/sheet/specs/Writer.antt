@@ -1,13 +1,14 @@
 -- Document 01, "Writer: 3, 7, 11, 12, 13 (sheet bytes)": the writer's refusal table, its answer, and the sheet bytes after it. Assumes nothing.
 use Prim.Native.Nat.{ℕ, _+_, _*_, _/_, _%_, _≤_}
 use mathlib.Core.Path.{_≡_}
-use mathlib.Core.Bool.{Bool, not, _||_}
+use mathlib.Core.Bool.{not}
 use mathlib.Core.List.{List, [], _∷_, _++_}
 use lib.ListN.{length, take, getD}
-use lib.Dec.{ltb, eqb}
+use lib.Dec.{ltb}
 use Rattle.words.specs.Pieces.{write}
 use Rattle.words.specs.Rows.{Row, weigh, settle}
 use Rattle.request.specs.declared.Request.{Request}
+use Rattle.request.specs.Rows.{outside, arcWordsRow}
 use Rattle.text.specs.Number.{anyOver}
 use Rattle.sheet.specs.declared.Writing.{Writing}
 use Rattle.sheet.specs.declared.Writing.the-variants.{Bytes, Refused}
@@ -30,10 +31,6 @@ numbersOf r words = (r .nodes ∷ r .criteria ∷ []) ++ (words ++ asksOf r)
 unfoldable pub written : Request → List ℕ → List ℕ
 written r words = sheetText (r .nodes) (r .criteria) (length words / (r .criteria + 2)) words (asksOf r)
 
--- "not a multiple of d+2, or over 512 arcs"
-abbrev pub arcsAmiss : ℕ → List ℕ → Bool
-arcsAmiss d words = not (eqb (length words % (d + 2)) 0) || ltb 512 (length words / (d + 2))
-
 -- d is 2 or 3 and the words are at most 512 arcs of d + 2 words: rows 3 and 7 do not hold
 pub record Ranged (d : ℕ) (words : List ℕ) : Type 0 where
   pub at-least : 2 ≤ d
@@ -45,9 +42,9 @@ pub record Ranged (d : ℕ) (words : List ℕ) : Type 0 where
 abbrev pub writerRows : Request → List ℕ → ℕ → List Row
 writerRows r words room =
     -- "3: d" (a row that only names a number means that it is outside Sizes: "Criteria d 2 or 3")
-    record { number = 3; holds = ltb (r .criteria) 2 || ltb 3 (r .criteria); place = 0 }
-    -- "7: arc words not a multiple of d+2, or over 512 arcs"
-    ∷ record { number = 7; holds = arcsAmiss (r .criteria) words; place = 0 }
+    record { number = 3; holds = outside 2 3 (r .criteria); place = 0 }
+    -- "7: arc words not a multiple of d+2, or over 512 arcs", as in the build
+    ∷ arcWordsRow (length words) (r .criteria + 2)
     -- "11: writer: a number to be written is over 99,999,999"
     ∷ record { number = 11; holds = anyOver (numbersOf r words); place = 0 }
     -- "12: sheet over 8,192 bytes"
