@@ -18,7 +18,7 @@ use Rattle.request.specs.Shape.{top, buckets, cells}
 use Rattle.request.specs.Accepted.{Accepted, Regular}
 use Rattle.request.proofs.Accepted.{accepted-regular}
 use Rattle.rounds.specs.Label.{costs, filled}
-use Rattle.rounds.specs.Rounds.{tries, labelAt}
+use Rattle.rounds.specs.Rounds.{tries, labelAt, labelIn}
 use Rattle.rounds.proofs.Table.{table-words, front-label}
 use Rattle.rounds.proofs.Tries.{tries-le}
 use Rattle.rounds.proofs.Costs.{Within, layer-costs}
@@ -33,7 +33,7 @@ use Rattle.sheet.proofs.RoundTrips.{same-bytes, same-numbers}
 use Rattle.table.specs.Build.{buildRows, answer, builtOf, labelsAfter}
 use Rattle.table.specs.declared.Built.the-variants as built
 use Rattle.table.proofs.Building.{clear-accepted, clear-rooms, refused-all, built-all}
-use Rattle.route.specs.Chain.{labelIn, chain}
+use Rattle.route.specs.Chain.{chain}
 use Rattle.route.specs.Answer.{backRows, arcsOf, routeAfter}
 use Rattle.route.specs.Walked.{Fronts}
 use Rattle.route.proofs.Promises.{decides-ending, none-route, route-walks, table-route, table-walks}
@@ -137,13 +137,11 @@ module _ (q : Request) (arcs buffer labels : List ℕ) (t : ℕ) (e : builtOf (a
 
   -- the label at its place in the buffer is the rounds' own
   label-is : (i v c : ℕ) → i ≤ q .hops → v < q .nodes → c < cells R → labelIn R W i v c ≡ labelAt R i v c
-  unfolding labelIn at
   label-is i v c hi hv hc =
       let room = clear-rooms R (length buffer) (length labels) none-held .1 in
       let words = table-words R ok in
       let after = built-all R buffer labels none-held .2 in
-      ap (λ (X : List ℕ). part X (((i * R .nodes + v) * cells R + c) * width R) (width R)) (sym after)
-      ∙ front-label R ok i v c hi hv hc labels (omega arith)
+      ap (λ (X : List ℕ). labelIn R X i v c) (sym after) ∙ front-label R ok i v c hi hv hc labels (omega arith)
 
   full-is : (i v c : ℕ) → i ≤ q .hops → v < q .nodes → c < cells R → T (filled R (labelIn R W i v c)) → T (filled R (labelAt R i v c))
   full-is i v c hi hv hc = subst (λ (l : List ℕ). T (filled R l)) (label-is i v c hi hv hc)

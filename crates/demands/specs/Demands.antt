@@ -13,10 +13,10 @@ use Rattle.request.specs.declared.Request.{Request}
 use Rattle.request.specs.Request.{Req, asked, arcCount, ratioP, ratioQ}
 use Rattle.request.specs.Shape.{top, buckets, cells, ladders, largest}
 use Rattle.rounds.specs.Label.{costs, filled}
-use Rattle.rounds.specs.Rounds.{table, tries}
+use Rattle.rounds.specs.Rounds.{table, tries, labelIn}
 use Rattle.cover.specs.Walk.{Walk, sums}
 use Rattle.cover.specs.Cover.{Covers}
-use Rattle.route.specs.Chain.{labelIn, chain}
+use Rattle.route.specs.Chain.{chain}
 use Rattle.route.specs.Answer.{backRows, refusal, arcsOf, endingOf, routeAfter}
 use Rattle.route.specs.Walked.{RouteRead}
 use Rattle.route.specs.declared.Ending.the-variants as ending

@@ -13,8 +13,8 @@ use Rattle.request.specs.Shape.{largestOf, largest, top, buckets, position, cel
 use Rattle.request.specs.Rows.{outside, sizeRows, ratioRow, arcWordsRow, arcFault, arcRow, bucketRow, labelRow, askRows, arcRows, shapeRows, rows}
 use Rattle.sheet.specs.Grammar.{kindOf, linesFrom, sheetOf}
 use Rattle.rounds.specs.Label.{costs, step, from, filled, empty, start, kept, sum, candidate, came, wins}
-use Rattle.rounds.specs.Rounds.{block, blank, startBlock, startLayer, keepCell, keepBlock, keepAll, offer, tryCell, tryArc, arcStep, round, layer, table, filledIn, roundTries, tries}
-use Rattle.route.specs.Chain.{labelIn, same, startHolds, agrees, keptHolds, arcHolds, chainIn, chain}
+use Rattle.rounds.specs.Rounds.{block, blank, startBlock, startLayer, keepCell, keepBlock, keepAll, offer, tryCell, tryArc, arcStep, round, layer, table, filledIn, roundTries, tries, labelIn}
+use Rattle.route.specs.Chain.{same, startHolds, agrees, keptHolds, arcHolds, chainIn, chain}
 use Rattle.listing.specs.Listing.{lastLabel, lastRoute, filledAt, filledOf, filledLast, labelNumbers, labelLine, nodeLines, labelLines, coverLine, listingText}
 use Rattle.listing.specs.List.{asks, listingOf, requestRows, listRows, listedOf}
 use Rattle.listing.specs.Example.{input, output, PrintedExample}

@@ -13,8 +13,8 @@ use Rattle.request.specs.declared.Request.{Request}
 use Rattle.request.specs.Request.{asked}
 use Rattle.request.specs.Shape.{cells, labelCount}
 use Rattle.request.proofs.Answers.{cells-few}
+use Rattle.rounds.specs.Rounds.{labelIn}
 use Rattle.rounds.specs.Label.{costs, step, filled}
-use Rattle.route.specs.Chain.{labelIn}
 use Rattle.listing.specs.Listing.{lastLabel}
 use Rattle.listing.specs.Print.{Tabled}
 

@@ -10,8 +10,8 @@ use Rattle.request.specs.Request.{Req}
 use Rattle.request.specs.Shape.{cells}
 use Rattle.sheet.specs.Grammar.{tab}
 use Rattle.rounds.specs.Label.{costs, filled}
-use Rattle.rounds.specs.Rounds.{bit}
-use Rattle.route.specs.Chain.{labelIn, chain}
+use Rattle.rounds.specs.Rounds.{bit, labelIn}
+use Rattle.route.specs.Chain.{chain}
 use Rattle.route.specs.Answer.{arcsOf}
 
 -- ---- "the listing's words"

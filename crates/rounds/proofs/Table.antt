@@ -12,7 +12,7 @@ use Rattle.words.proofs.Writes.{part-write-inside}
 use Rattle.request.specs.Request.{Req, width}
 use Rattle.request.specs.Shape.{cells, labelCount}
 use Rattle.request.specs.Accepted.{Regular}
-use Rattle.rounds.specs.Rounds.{span, block, layer, table, labelOf, labelAt}
+use Rattle.rounds.specs.Rounds.{span, block, layer, table, labelIn, labelOf, labelAt}
 use Rattle.rounds.proofs.Round.{layer-length}
 
 module _ (R : Req) (ok : Regular R) where
@@ -30,8 +30,8 @@ module _ (R : Req) (ok : Regular R) where
 
   module _ (i v c : ℕ) (hi : i ≤ R .hops) (hv : v < R .nodes) (hc : c < cells R) where
     -- "The label of layer i, node v, cell c starts at word ((i × N + v) × C + c) × (d+2)"
-    pub table-label : at (width R) (table R) ((i * R .nodes + v) * cells R + c) ≡ labelAt R i v c
-    unfolding labelAt labelOf block table
+    pub table-label : labelIn R (table R) i v c ≡ labelAt R i v c
+    unfolding labelIn labelAt labelOf block table
     table-label =
         sym (at-at (width R) (cells R) (table R) (i * R .nodes + v) c hc)
         ∙ ap (λ (B : List ℕ). at (width R) B c) (sym (at-at (span R) (R .nodes) (table R) i v hv) ∙ ap (λ (L : List ℕ). at (span R) L v) (join-at (R .nodes * span R) (layer R) (R .hops + 1) (λ k _. layer-length R ok k) i (omega arith)))
@@ -46,8 +46,8 @@ module _ (R : Req) (ok : Regular R) where
         omega arith
 
     -- and so in any words whose front is the table
-    pub front-label : (xs : List ℕ) → length (table R) ≤ length xs → at (width R) (write xs 0 (table R)) ((i * R .nodes + v) * cells R + c) ≡ labelAt R i v c
-    unfolding at
+    pub front-label : (xs : List ℕ) → length (table R) ≤ length xs → labelIn R (write xs 0 (table R)) i v c ≡ labelAt R i v c
+    unfolding at labelIn
     front-label xs room =
         ap (λ (k : ℕ). part (write xs 0 (table R)) k (width R)) (sym (zero-add (((i * R .nodes + v) * cells R + c) * width R)))
         ∙ part-write-inside xs 0 (table R) (((i * R .nodes + v) * cells R + c) * width R) (width R) (rw zero-add room) place-in

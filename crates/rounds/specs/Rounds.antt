@@ -78,6 +78,10 @@ layer R (suc i) = round R (layer R i)
 unfoldable pub table : Req → List ℕ
 table R = join (layer R) (R .hops + 1)
 
+-- "The label of layer i, node v, cell c starts at word ((i × N + v) × C + c) × (d+2)"
+unfoldable pub labelIn : Req → List ℕ → ℕ → ℕ → ℕ → List ℕ
+labelIn R W i v c = at (width R) W ((i * R .nodes + v) * cells R + c)
+
 -- the label of node v, cell c in a layer's words
 unfoldable pub labelOf : Req → List ℕ → ℕ → ℕ → List ℕ
 labelOf R L v c = at (width R) (block R L v) c

@@ -16,8 +16,9 @@ use Rattle.request.specs.Shape.{cells, labelCount}
 use Rattle.request.specs.Rows.{rows}
 use Rattle.request.specs.Accepted.{Accepted}
 use Rattle.request.proofs.Tests.{lt-holds, lt-fails}
+use Rattle.rounds.specs.Rounds.{labelIn}
 use Rattle.rounds.specs.Label.{costs, step, filled}
-use Rattle.route.specs.Chain.{labelIn, Chain, whole, broken, chain}
+use Rattle.route.specs.Chain.{Chain, whole, broken, chain}
 use Rattle.route.specs.Answer.{breaks, breakLayer, arcsOf, backRows, refusal, ended, endingOf, costsAfter, routeAfter}
 use Rattle.route.specs.declared.Ending.{Ending}
 use Rattle.route.specs.declared.Ending.the-variants as ending

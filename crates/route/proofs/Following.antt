@@ -10,9 +10,10 @@ use lib.Dec.{T}
 use Rattle.words.specs.Pieces.{write}
 use Rattle.words.proofs.Writes.{write-part, set-behind}
 use Rattle.request.specs.Request.{Req, tail, reach}
+use Rattle.rounds.specs.Rounds.{labelIn}
 use Rattle.rounds.specs.Label.{step, from}
 use Rattle.cover.proofs.Walks.{length-snoc}
-use Rattle.route.specs.Chain.{labelIn, Chain, whole, broken, push, startHolds, keptHolds, arcHolds, chainIn, chain}
+use Rattle.route.specs.Chain.{Chain, whole, broken, push, startHolds, keptHolds, arcHolds, chainIn, chain}
 use Rattle.route.specs.Links.{linkOf, trailOf}
 use Rattle.route.specs.Answer.{arcsOf}
 use Rattle.route.specs.declared.Link.{Link}

@@ -9,8 +9,9 @@ use Rattle.words.specs.Pieces.{at}
 use Rattle.words.proofs.Choices.{cond-cases, cond-true, cond-false, true-is, false-is}
 use Rattle.request.specs.Request.{Req, width, tail}
 use Rattle.request.specs.Shape.{cells}
+use Rattle.rounds.specs.Rounds.{labelIn}
 use Rattle.rounds.specs.Label.{step, from}
-use Rattle.route.specs.Chain.{labelIn, startHolds, keptHolds, arcHolds}
+use Rattle.route.specs.Chain.{startHolds, keptHolds, arcHolds}
 use Rattle.route.specs.Links.{linkOf}
 use Rattle.route.specs.declared.Link.{Link}
 use Rattle.route.specs.declared.Link.the-variants as link

@@ -21,10 +21,10 @@ use Rattle.request.specs.declared.Refusal.{Refusal}
 use Rattle.request.proofs.Accepted.{accepted-regular}
 use Rattle.request.proofs.Tests.{lt-fails, le-fails}
 use Rattle.rounds.specs.Label.{costs, step, filled}
-use Rattle.rounds.specs.Rounds.{table, labelAt}
+use Rattle.rounds.specs.Rounds.{table, labelAt, labelIn}
 use Rattle.rounds.proofs.Table.{table-words}
 use Rattle.cover.specs.Cover.{route}
-use Rattle.route.specs.Chain.{labelIn, Chain, whole, broken, chain}
+use Rattle.route.specs.Chain.{Chain, whole, broken, chain}
 use Rattle.route.specs.Answer.{breaks, arcsOf, backRows, refusal, ended, endingOf, costsAfter, routeAfter}
 use Rattle.route.specs.Walked.{Walked, Sound, RouteRead, Fronts}
 use Rattle.route.specs.declared.Ending.the-variants as ending

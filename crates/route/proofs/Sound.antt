@@ -8,10 +8,11 @@ use lib.ListN.{length, replicate}
 use lib.Dec.{T, lt→ltb}
 use Rattle.words.proofs.Choices.{cond-cases}
 use Rattle.request.specs.Request.{Req, tail, arcCosts, reach}
+use Rattle.rounds.specs.Rounds.{labelIn}
 use Rattle.rounds.specs.Label.{step, from, filled, sum}
 use Rattle.cover.specs.Walk.{Walk, sums, sumsFrom}
 use Rattle.cover.proofs.Walks.{walk-snoc, sums-snoc, length-snoc}
-use Rattle.route.specs.Chain.{labelIn, Chain, whole, broken, push, startHolds, keptHolds, arcHolds, chainIn, chain}
+use Rattle.route.specs.Chain.{Chain, whole, broken, push, startHolds, keptHolds, arcHolds, chainIn, chain}
 use Rattle.route.specs.Answer.{arcsOf, breakLayer}
 use Rattle.route.specs.Walked.{Sound}
 use Rattle.route.proofs.Holding.{start-facts, kept-facts, arc-facts}

@@ -15,7 +15,7 @@ use Rattle.request.specs.Request.{Req, width, arcCount, tail, head, arcCosts, r
 use Rattle.request.specs.Shape.{cells}
 use Rattle.request.specs.Accepted.{Regular}
 use Rattle.rounds.specs.Label.{costs, step, from, filled, start, kept, sum, candidate, came}
-use Rattle.rounds.specs.Rounds.{span, block, startBlock, keepBlock, layer, table, labelOf, labelAt}
+use Rattle.rounds.specs.Rounds.{span, block, startBlock, keepBlock, layer, table, labelOf, labelAt, labelIn}
 use Rattle.rounds.proofs.Labels.{costs-length, step-label, from-label, start-costs, kept-costs, candidate-length, came-costs}
 use Rattle.rounds.proofs.Start.{start-block, start-label, start-only}
 use Rattle.rounds.proofs.Node.{Origin, of-old, of-arc}
@@ -23,7 +23,7 @@ use Rattle.rounds.proofs.Round.{layer-length, keep-at, keep-filled, origin, blo
 use Rattle.rounds.proofs.Table.{table-length}
 use Rattle.cover.specs.Cover.{route}
 use Rattle.cover.proofs.Routes.{route-kept, route-arc}
-use Rattle.route.specs.Chain.{labelIn, whole, push, startHolds, keptHolds, arcHolds, chain}
+use Rattle.route.specs.Chain.{whole, push, startHolds, keptHolds, arcHolds, chain}
 use Rattle.route.specs.Walked.{Fronts}
 use Rattle.route.specs.declared.Link.the-variants as link
 use Rattle.route.proofs.Holding.{start-facts, start-true, kept-facts, kept-true, arc-true}

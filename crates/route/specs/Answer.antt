@@ -9,8 +9,9 @@ use Rattle.words.specs.Rows.{Row, Weighed, clear, refused, weigh, settle}
 use Rattle.request.specs.Request.{Req, width, reach}
 use Rattle.request.specs.Shape.{cells, labelCount}
 use Rattle.request.specs.Rows.{rows}
+use Rattle.rounds.specs.Rounds.{labelIn}
 use Rattle.rounds.specs.Label.{costs, filled}
-use Rattle.route.specs.Chain.{labelIn, Chain, whole, broken, chain}
+use Rattle.route.specs.Chain.{Chain, whole, broken, chain}
 use Rattle.route.specs.declared.Ending.{Ending}
 use Rattle.route.specs.declared.Ending.the-variants as ending
 

@@ -1,18 +1,14 @@
 -- Document 01, "Reading a route back": what each kind of label needs, and the chain from a label back to the start. It trusts nothing in the
 -- words of the table. Assumes nothing.
-use Prim.Native.Nat.{ℕ, zero, suc, _+_, _-_, _*_}
+use Prim.Native.Nat.{ℕ, zero, suc, _-_}
 use mathlib.Core.Bool.{Bool, true, false, cond, not, _||_, _&&_}
 use mathlib.Core.List.{List, [], _∷_, _++_}
 use lib.ListN.{replicate}
 use lib.Dec.{leb, ltb, eqb}
-use Rattle.words.specs.Pieces.{at}
-use Rattle.request.specs.Request.{Req, width, arcCount, tail, head, arcCosts, reach}
+use Rattle.request.specs.Request.{Req, arcCount, tail, head, arcCosts, reach}
 use Rattle.request.specs.Shape.{cells}
 use Rattle.rounds.specs.Label.{costs, step, from, filled, sum}
-
--- "The label of layer i, node v, cell c starts at word ((i × N + v) × C + c) × (d+2)"
-unfoldable pub labelIn : Req → List ℕ → ℕ → ℕ → ℕ → List ℕ
-labelIn R W i v c = at (width R) W ((i * R .nodes + v) * cells R + c)
+use Rattle.rounds.specs.Rounds.{labelIn}
 
 -- the same costs
 unfoldable pub same : List ℕ → List ℕ → Bool

@@ -4,8 +4,9 @@ use mathlib.Core.Bool.{cond}
 use mathlib.Core.List.{List}
 use lib.ListN.{length}
 use Rattle.request.specs.Request.{Req, tail}
+use Rattle.rounds.specs.Rounds.{labelIn}
 use Rattle.rounds.specs.Label.{step, from}
-use Rattle.route.specs.Chain.{labelIn, Chain, whole, broken, startHolds, keptHolds, arcHolds}
+use Rattle.route.specs.Chain.{Chain, whole, broken, startHolds, keptHolds, arcHolds}
 use Rattle.route.specs.declared.Link.{Link}
 use Rattle.route.specs.declared.Link.the-variants as link
 use Rattle.route.specs.declared.Trail.{Trail}

@@ -7,9 +7,9 @@ use lib.Dec.{T}
 use Rattle.words.specs.Pieces.{write}
 use Rattle.request.specs.Request.{Req}
 use Rattle.rounds.specs.Label.{costs, filled}
-use Rattle.rounds.specs.Rounds.{table}
+use Rattle.rounds.specs.Rounds.{table, labelIn}
 use Rattle.cover.specs.Walk.{Walk, sums}
-use Rattle.route.specs.Chain.{labelIn, Chain, whole, broken}
+use Rattle.route.specs.Chain.{Chain, whole, broken}
 use Rattle.route.specs.Answer.{costsAfter, routeAfter}
 
 -- arcs ws "from the source" to node v, "at most i arcs long, with exactly those sums" xs

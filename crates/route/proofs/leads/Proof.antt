@@ -6,8 +6,9 @@ use mathlib.Core.List.{List}
 use lib.ListN.{getD}
 use lib.Dec.{T}
 use Rattle.request.specs.Request.{Req, asked, arc, tail}
+use Rattle.rounds.specs.Rounds.{labelIn}
 use Rattle.rounds.specs.Label.{step, from}
-use Rattle.route.specs.Chain.{labelIn, startHolds, keptHolds}
+use Rattle.route.specs.Chain.{startHolds, keptHolds}
 use Rattle.route.specs.Links.{linkOf}
 use Rattle.route.specs.declared.Link.{Link}
 use Rattle.route.specs.declared.Link.the-variants as link

@@ -9,8 +9,9 @@ use Rattle.words.specs.Rows.{Weighed, refused, weigh}
 use Rattle.request.specs.Request.{Req, asked, reach}
 use Rattle.request.specs.Shape.{cells}
 use Rattle.request.proofs.Accepted.{accepted-regular, accepted-small, accepted-fits}
+use Rattle.rounds.specs.Rounds.{labelIn}
 use Rattle.rounds.specs.Label.{costs, step}
-use Rattle.route.specs.Chain.{labelIn, Chain, chain}
+use Rattle.route.specs.Chain.{Chain, chain}
 use Rattle.route.specs.Answer.{backRows}
 use Rattle.route.proofs.Leading.{label-is}
 use Rattle.route.proofs.Answering.{layer-asked, Placed, empty-cell, chain-broken, chain-whole, other, refused-all, empty-all, route-all}
