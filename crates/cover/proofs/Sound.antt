@@ -10,7 +10,7 @@ use Rattle.request.specs.Request.{Req, width, tail, head}
 use Rattle.request.specs.Shape.{cells, cell}
 use Rattle.request.specs.Accepted.{Regular}
 use Rattle.rounds.specs.Label.{costs, filled, start, kept}
-use Rattle.rounds.specs.Rounds.{span, block, startBlock, keepBlock, layer, labelOf, labelAt}
+use Rattle.rounds.specs.Rounds.{block, startBlock, keepBlock, layer, labelOf, labelAt}
 use Rattle.rounds.proofs.Labels.{start-costs, kept-costs}
 use Rattle.rounds.proofs.Start.{start-block, start-label, start-only, cell-zero}
 use Rattle.rounds.proofs.Node.{Origin, of-old, of-arc, made}

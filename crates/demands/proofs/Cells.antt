@@ -7,7 +7,7 @@ use lib.ListN.{getD}
 use Rattle.words.specs.Loops.{upTo}
 use Rattle.words.specs.Radix.{radix}
 use Rattle.request.specs.declared.Request.{Request}
-use Rattle.request.specs.Request.{Req, asked}
+use Rattle.request.specs.Request.{asked}
 use Rattle.request.specs.Shape.{buckets, position, cell}
 
 -- a number of one digit, and of two

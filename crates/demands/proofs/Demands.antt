@@ -6,14 +6,14 @@ use mathlib.Core.Logic.{_⊎_, inl, inr}
 use native.Mathlib.Omega.{arith}
 use lib.ListN.{length, getD}
 use lib.Dec.{T, T-not}
-use Rattle.words.specs.Pieces.{part, at, write}
+use Rattle.words.specs.Pieces.{at, write}
 use Rattle.words.specs.Radix.{volume}
 use Rattle.words.specs.Rows.{Row, row, Decides, NoneHolds, Weighed, clear, refused, weigh, settle}
 use Rattle.words.proofs.Rows.{decides-refused, none-clear, clear-none, refused-decides}
 use Rattle.fences.specs.Fence.{bits, ceil}
 use Rattle.fences.proofs.Growth.{buckets-le}
 use Rattle.request.specs.declared.Request.{Request}
-use Rattle.request.specs.Request.{Req, asked, width, head, reach, ratioP, ratioQ}
+use Rattle.request.specs.Request.{Req, asked, head, reach, ratioP, ratioQ}
 use Rattle.request.specs.Shape.{top, buckets, cells}
 use Rattle.request.specs.Accepted.{Accepted, Regular}
 use Rattle.request.proofs.Accepted.{accepted-regular}

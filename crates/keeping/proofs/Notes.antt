@@ -1,13 +1,12 @@
 -- What is noted of a block, cell by cell. Assumes nothing.
-use Prim.Native.Nat.{ℕ, _+_, _≤_, _<_, zero-le}
+use Prim.Native.Nat.{ℕ, _+_, _≤_, _<_}
 use mathlib.Core.Path.{_≡_, refl, sym, ap, ap₂, _∙_}
 use mathlib.Core.Bool.{Bool, true, false, cond, _||_}
 use mathlib.Core.List.{List}
-use native.Mathlib.Nat.{le-refl, le-trans, not-suc-le-zero, le-of-eq, mul-one}
+use native.Mathlib.Nat.{le-refl, not-suc-le-zero, mul-one}
 use native.Mathlib.Omega.{arith}
-use lib.Dec.{eqb, ltb, eqb→eq}
-use borrow.Author.Tests.{eq-eqb, ne-eqb, lt-ltb, le-ltb, eqb-true, eqb-false}
-use Rattle.words.specs.Loops.{total}
+use lib.Dec.{eqb, ltb}
+use borrow.Author.Tests.{eq-eqb, ne-eqb, lt-ltb, le-ltb, eqb-true}
 use Rattle.words.proofs.Loops.{total-zero, total-next, total-le, below-next}
 use Rattle.rounds.specs.Rounds.{bit}
 use Rattle.rounds.specs.Passing.{Quiet, quiet}

@@ -6,7 +6,7 @@ use mathlib.Core.List.{List}
 use lib.ListN.{length, getD, take, replicate}
 use lib.Dec.{ltb}
 use Rattle.words.specs.Loops.{total}
-use Rattle.words.specs.Pieces.{part, at, join}
+use Rattle.words.specs.Pieces.{at, join}
 use Rattle.rounds.specs.Label.{label}
 use Rattle.rounds.specs.Rounds.{bit}
 use Rattle.rounds.specs.Passing.{Quiet}

@@ -1,7 +1,7 @@
 // What a round keeps of the layer before: a label, a node's block, a layer; and what it notes of each node on the way.
 use words::clear;
 ghost use mathlib.Core.Path.{_≡_};
-ghost use Prim.Native.Nat.{ℕ, _+_, _*_, _≤_, _<_};
+ghost use Prim.Native.Nat.{_+_, _*_, _≤_, _<_};
 ghost use mathlib.Core.Bool.{cond};
 ghost use lib.ListN.{length, getD, replicate};
 ghost use lib.Dec.{ltb, eqb};

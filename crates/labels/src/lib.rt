@@ -3,7 +3,7 @@ use fences::seek;
 use words::copy;
 ghost use mathlib.Core.Path.{_≡_};
 ghost use mathlib.Core.Bool.{cond};
-ghost use Prim.Native.Nat.{ℕ, _+_, _≤_};
+ghost use Prim.Native.Nat.{_+_, _≤_};
 ghost use lib.ListN.{length, take, drop};
 ghost use Rattle.rounds.specs.Label.{label, sum};
 ghost use Rattle.labels.specs.Words.{winsOver, Adds, Seeks, Found-at, SameFrom};

@@ -11,15 +11,12 @@ use Rattle.words.specs.Pieces.{part, write, at, put, join}
 use Rattle.words.specs.Radix.{volume, radix}
 use Rattle.words.specs.Rows.{weigh, each}
 use Rattle.fences.specs.Fence as fence
-use Rattle.request.specs.declared.Request.{Request}
-use Rattle.request.specs.declared.Refusal.{Refusal}
 use Rattle.request.specs.Request.{Req, asked, lower, ratioP, ratioQ, arcCount, arc, tail, head, arcCosts, reach}
 use Rattle.request.specs.Shape.{largestOf, largest, top, buckets, ladder, ladders, position, cells, cell, labelCount}
 use Rattle.request.specs.Rows.{outside, sizeRows, ratioRow, arcWordsRow, arcFault, arcRow, bucketRow, labelRow, askRows, arcRows, shapeRows, rows}
 use Rattle.rounds.specs.Label.{costs, step, from, filled, empty, start, kept, sum, candidate, came, wins}
 use Rattle.rounds.specs.Rounds.{block, blank, startBlock, startLayer, keepCell, keepBlock, keepAll, offer, tryCell, tryArc, arcStep, round, layer, table, filledIn, roundTries, tries}
 use Rattle.table.specs.Build.{buildRows, builtOf, laddersAfter, labelsAfter}
-use Rattle.table.specs.declared.Built.{Built}
 use Rattle.table.specs.declared.Built.the-variants as built
 use Rattle.promises.specs.StandIns.{example, tracks, Call, laddersLeft, labelsLeft, ShutOut}
 

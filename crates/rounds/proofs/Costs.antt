@@ -4,7 +4,7 @@ use mathlib.Core.Path.{_≡_, ap, ap₂, _∙_, subst}
 use mathlib.Core.List.{List}
 use native.Mathlib.Nat.{suc-mul, mul-le-mul-right}
 use native.Mathlib.Omega.{arith}
-use lib.ListN.{length, getD}
+use lib.ListN.{getD}
 use lib.Dec.{T}
 use Rattle.words.specs.Pieces.{at}
 use Rattle.request.specs.Request.{Req, width, arcCosts, tail, reach}
@@ -12,7 +12,7 @@ use Rattle.request.specs.Shape.{largest, top, cells}
 use Rattle.request.specs.Accepted.{Regular}
 use Rattle.request.proofs.Tops.{arc-le}
 use Rattle.rounds.specs.Label.{costs, filled, candidate}
-use Rattle.rounds.specs.Rounds.{span, block, startBlock, startLayer, keepBlock, layer, labelOf, labelAt}
+use Rattle.rounds.specs.Rounds.{block, startBlock, startLayer, keepBlock, layer, labelOf, labelAt}
 use Rattle.rounds.proofs.Labels.{getD-sum, zero-costs, start-costs, kept-costs, came-costs}
 use Rattle.rounds.proofs.Start.{start-block, start-label, start-only}
 use Rattle.rounds.proofs.Node.{Origin, of-old, of-arc}

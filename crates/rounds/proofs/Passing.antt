@@ -2,12 +2,11 @@
 -- changes nothing. The proof in words stands above the definitions. Assumes nothing.
 use Prim.Native.Nat.{ℕ, zero, suc, _+_, _*_, _≤_, _<_}
 use mathlib.Core.Path.{_≡_, refl, sym, ap, ap₂, _∙_, subst}
-use mathlib.Core.Bool.{not}
 use mathlib.Core.List.{List}
 use mathlib.Core.Logic.{⊎-elim}
 use native.Mathlib.Nat.{le-trans}
 use native.Mathlib.Omega.{arith}
-use lib.ListN.{length, getD, replicate, length-replicate}
+use lib.ListN.{length, replicate, length-replicate}
 use lib.Dec.{T, ltb, lt→ltb}
 use borrow.Author.Tests.{le-ltb}
 use Rattle.words.specs.Loops.{upTo}
@@ -16,7 +15,7 @@ use Rattle.words.proofs.Choices.{cond-cases, cond-false, false-is}
 use Rattle.words.proofs.Loops.{upTo-keeps, upTo-idle}
 use Rattle.words.proofs.Pieces.{at-length}
 use Rattle.request.specs.Request.{Req, width, arcCount, arcCosts, tail, head, reach}
-use Rattle.request.specs.Shape.{top, cells, cell}
+use Rattle.request.specs.Shape.{cells, cell}
 use Rattle.request.specs.Accepted.{Regular}
 use Rattle.request.proofs.Cells.{UnderTop, cell-lt}
 use Rattle.request.proofs.Tops.{arc-le}
@@ -24,7 +23,7 @@ use Rattle.rounds.specs.Label.{label, costs, step, filled, start, kept, 
 use Rattle.rounds.specs.Rounds.{span, block, startBlock, startLayer, keepBlock, keepAll, offer, tryCell, arcStep, round, layer, labelOf, labelAt}
 use Rattle.rounds.specs.Passing.{Room, Taken, Tried, AllTried, Quiet}
 use Rattle.rounds.proofs.Costs.{layer-costs, room-for-arc}
-use Rattle.rounds.proofs.Labels.{getD-sum, step-label, costs-length, kept-costs}
+use Rattle.rounds.proofs.Labels.{getD-sum, step-label, kept-costs}
 use Rattle.rounds.proofs.Start.{start-block, start-label, start-only}
 use Rattle.rounds.proofs.Ties.{Fair, Stays, stay-low, stays-held}
 use Rattle.rounds.proofs.Node.{Good, Origin, of-old, of-arc, cand, made, made-costs, cand-length, tryCell-length, try-good, node-origin}
