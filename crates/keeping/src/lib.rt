@@ -12,10 +12,10 @@ ghost use Rattle.rounds.specs.Passing.{quiet};
 ghost use Rattle.keeping.specs.Kept.{keepWords, keptBlock, Noted, Kept-in, Layers-in, NotedAll};
 
 // What is noted of a block: how many of its labels are filled, and a range of cells outside which all are empty or kept.
-pub struct Note {
-    pub filled: u64,
-    pub low: usize,
-    pub high: usize,
+struct Note {
+    filled: u64,
+    low: usize,
+    high: usize,
 }
 
 // The costs of the label at `at`, kept at `to`, word by word.
