@@ -2,24 +2,18 @@
 use Prim.Native.Nat.{ℕ, zero, suc, _+_, _*_, _≤_, _<_, zero-le}
 use mathlib.Core.Path.{_≡_, refl, sym, ap, _∙_, subst}
 use mathlib.Core.List.{List, [], _∷_, _++_}
-use native.Mathlib.Nat.{le-refl, zero-mul, one-mul, add-mul, le-of-eq, mul-le-mul}
+use native.Mathlib.Nat.{le-refl, zero-mul, one-mul, add-mul, le-of-eq}
 use native.Mathlib.Omega.{arith}
 use lib.ListN.{length, getD, take, drop, replicate, length-replicate, length-append}
 use lib.Seq.{length-take-le}
 use lib.Dec.{ltb}
 use Rattle.words.specs.Pieces.{part, at, write}
 use Rattle.words.proofs.Choices.{cond-cases}
-use Rattle.words.proofs.Pieces.{piece-end, at-length, join-zero, join-next, join-length}
-use Rattle.words.proofs.Writes.{length-part, part-part, length-write, lent, part-write-inside, part-write-below, drop-write-above, write-part, write-over, write-append}
+use Rattle.words.proofs.Pieces.{piece-end, at-length, join-zero, join-length}
+use Rattle.words.proofs.Turns.{join-put}
+use Rattle.words.proofs.Writes.{length-part, part-part, length-write, lent, part-write-inside, part-write-below, drop-write-above, write-part, write-over}
 use Rattle.keeping.specs.Kept.{keepWords, keptBlock, Noted, Kept-in}
 use Rattle.keeping.proofs.Notes.{Says, none-noted, one-noted}
-
--- a block's words are few
-pub block-few : (n d : ℕ) → d ≤ 3 → n ≤ 1048576 → n * (d + 2) ≤ 5242880
-block-few n d h k = mul-le-mul k (five h)
-  where
-    five : d ≤ 3 → d + 2 ≤ 5
-    five h = omega arith
 
 -- a part of zeros
 part-zeros : (n a m : ℕ) → a + m ≤ n → part (replicate n 0) a m ≡ replicate m 0
@@ -142,13 +136,7 @@ module _ (xs ys : List ℕ) (n d prev base : ℕ) (p : Kept-in xs n d prev base)
             inside = omega arith;
             from-place = omega (arith, g .from-place);
             to-place = omega (arith, g .to-place);
-            words =
-                e
-                ∙ ap (λ (x : List ℕ). write ls to (keepWords d x)) label-is
-                ∙ ap (λ (x : List ℕ). write x to (keepWords d (at (d + 2) F c))) (g .words)
-                ∙ ap (λ (k : ℕ). write (write ys base (keptBlock d c F)) k (keepWords d (at (d + 2) F c))) place
-                ∙ write-append ys base (keptBlock d c F) (keepWords d (at (d + 2) F c))
-                ∙ ap (write ys base) (sym (join-next (λ c. keepWords d (at (d + 2) F c)) c));
+            words = join-put (λ c. keepWords d (at (d + 2) F c)) ys ls ls′ base to c place (g .words) (e ∙ ap (λ (x : List ℕ). write ls to (keepWords d x)) label-is);
             noted = one-noted d F c filled low high (g .noted) s f₁ l₁ h₁ (e-s ∙ ap (λ (x : List ℕ). getD x d 0) label-is) says;
           }
 

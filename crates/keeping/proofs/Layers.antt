@@ -8,10 +8,12 @@ use lib.ListN.{length, getD, set, length-set}
 use lib.Seq.{getD-set-same, getD-set-other}
 use Rattle.words.specs.Pieces.{part, at, write, join}
 use Rattle.words.proofs.Loops.{below-next}
-use Rattle.words.proofs.Pieces.{piece-end, at-length, join-zero, join-next, join-length}
-use Rattle.words.proofs.Writes.{length-part, part-part, length-write, part-write-below, write-part, write-append}
+use Rattle.words.proofs.Pieces.{piece-end, at-length, join-zero, join-length}
+use Rattle.words.proofs.Turns.{join-put}
+use Rattle.words.proofs.Writes.{length-part, part-part, length-write, part-write-below, write-part}
+use Rattle.rounds.proofs.Labels.{block-few}
 use Rattle.keeping.specs.Kept.{keptBlock, Noted, NotedAll, Kept-in, Layers-in}
-use Rattle.keeping.proofs.Blocks.{block-few, block-long}
+use Rattle.keeping.proofs.Blocks.{block-long}
 
 -- block v of the m blocks at `prev`, kept
 abbrev pub keptOf : List ℕ → ℕ → ℕ → ℕ → ℕ → ℕ → List ℕ
@@ -108,13 +110,7 @@ module _ (xs fs₀ los₀ his₀ : List ℕ) (m n d prev base : ℕ) (p : Layers
           inside = omega arith;
           from-place = omega (arith, g .from-place);
           to-place = omega (arith, g .to-place);
-          words =
-              e
-              ∙ ap (λ (x : List ℕ). write ls to (keptBlock d n x)) block-is
-              ∙ ap (λ (x : List ℕ). write x to (keptOf xs m n d prev v)) (g .words)
-              ∙ ap (λ (k : ℕ). write (write xs base (join (keptOf xs m n d prev) v)) k (keptOf xs m n d prev v)) place
-              ∙ write-append xs base (join (keptOf xs m n d prev) v) (keptOf xs m n d prev v)
-              ∙ ap (write xs base) (sym (join-next (keptOf xs m n d prev) v));
+          words = join-put (keptOf xs m n d prev) xs ls ls′ base to v place (g .words) (e ∙ ap (λ (x : List ℕ). write ls to (keptBlock d n x)) block-is);
           noted = noted-next d n L v fs los his f lo hi (here .in-fs) (here .in-los) (here .in-his) (g .noted) (subst (λ (x : List ℕ). Noted d x n f lo hi) block-is one);
           fs-long = length-set fs v f ∙ g .fs-long;
           los-long = length-set los v lo ∙ g .los-long;

@@ -1,8 +1,8 @@
 -- A label's words: its parts, sums of costs, what an empty block holds. Assumes nothing.
-use Prim.Native.Nat.{ℕ, zero, suc, _+_, _*_, _<_}
+use Prim.Native.Nat.{ℕ, zero, suc, _+_, _*_, _≤_, _<_}
 use mathlib.Core.Path.{_≡_, refl, sym, ap, _∙_, subst}
 use mathlib.Core.List.{List, [], _∷_}
-use native.Mathlib.Nat.{zero-add, suc-inj}
+use native.Mathlib.Nat.{zero-add, suc-inj, mul-le-mul}
 use native.Mathlib.Omega.{arith}
 use lib.ListN.{length, getD, take, drop, replicate, length-append, length-take, length-replicate}
 use lib.Seq.{take-at, getD-at, getD-append-add}
@@ -14,6 +14,15 @@ use Rattle.request.specs.Accepted.{Regular}
 use Rattle.request.proofs.Tops.{arc-length}
 use Rattle.rounds.specs.Label.{label, costs, step, from, filled, empty, start, kept, sum, candidate, came}
 use Rattle.rounds.specs.Rounds.{span, blank}
+
+-- ---- how many words
+
+-- n labels of at most three criteria take few words
+pub block-few : (n d : ℕ) → d ≤ 3 → n ≤ 1048576 → n * (d + 2) ≤ 5242880
+block-few n d h k = mul-le-mul k (five h)
+  where
+    five : d ≤ 3 → d + 2 ≤ 5
+    five h = omega arith
 
 -- ---- sums of costs
 

@@ -9,8 +9,9 @@ use lib.ListN.{length}
 use Rattle.words.specs.Loops.{upTo, total}
 use Rattle.words.specs.Pieces.{part, at, write, join}
 use Rattle.words.proofs.Loops.{total-next}
-use Rattle.words.proofs.Pieces.{join-next, join-suc, join-zero, join-length, join-at}
-use Rattle.words.proofs.Writes.{length-part, length-write, part-write-same, part-write-below, part-write-inside, write-part, write-over, write-append}
+use Rattle.words.proofs.Pieces.{join-suc, join-zero, join-length, join-at}
+use Rattle.words.proofs.Turns.{join-put}
+use Rattle.words.proofs.Writes.{length-part, length-write, part-write-same, part-write-below, part-write-inside, write-part, write-over}
 use Rattle.request.specs.Request.{Req, arcCount, reach}
 use Rattle.request.specs.Accepted.{Regular}
 use Rattle.rounds.specs.Rounds.{block, keepAll, arcStep, round, roundTries, startLayer, layer, table, tries}
@@ -161,11 +162,7 @@ module _ (R : Req) where
           record {
             inside = omega arith;
             begins = omega arith;
-            words =
-                e ∙ ap₂ (λ (x : List ℕ) (y : List ℕ). write x (base + layerWords R) y) (g .words) new
-                ∙ ap (λ (b : ℕ). write (write xs 0 (join (layer R) (i + 1))) b (layer R (i + 1))) place
-                ∙ write-append xs 0 (join (layer R) (i + 1)) (layer R (i + 1))
-                ∙ ap (write xs 0) (sym (join-next (layer R) (i + 1)));
+            words = join-put (layer R) xs ls ls′ 0 (base + layerWords R) (i + 1) place (g .words) (e ∙ ap (write ls (base + layerWords R)) new);
             count = omega arith;
           }
 

@@ -3,7 +3,7 @@ use Prim.Native.Nat.{ℕ, _+_, _*_, _≤_, _<_}
 use mathlib.Core.Path.{_≡_, refl, sym, ap, _∙_, subst}
 use mathlib.Core.Bool.{Bool, true, false, _||_}
 use mathlib.Core.List.{List}
-use native.Mathlib.Nat.{le-refl, one-mul, add-mul, mul-le-mul}
+use native.Mathlib.Nat.{le-refl, one-mul, add-mul}
 use native.Mathlib.Omega.{arith}
 use lib.ListN.{length, getD}
 use lib.Dec.{eqb}
@@ -31,13 +31,6 @@ pub record Past (d : ℕ) (F : List ℕ) (c high place i : ℕ) : Type 0 where
 
 pub none-past : (d : ℕ) (F : List ℕ) (c high : ℕ) → c ≤ high → Past d F c high (c * (d + 2) + d) c
 none-past d F c high h = record { reached = le-refl c; inside = h; stands = refl; between = λ k l m. absurd (omega arith) }
-
--- the words of a block are few
-pub few : (d n : ℕ) → d ≤ 3 → n ≤ 1048576 → n * (d + 2) ≤ 5242880
-few d n h k = mul-le-mul k (five h)
-  where
-    five : d ≤ 3 → d + 2 ≤ 5
-    five h = omega arith
 
 module _ (d : ℕ) (F : List ℕ) (c high place i : ℕ) (room : high * (d + 2) ≤ length F) (g : Past d F c high place i) where
   -- all of them

@@ -6,7 +6,8 @@ use lib.ListN.{length, take, drop, replicate}
 use Rattle.words.specs.Pieces.{part}
 use Rattle.keeping.specs.Kept.{Kept-in}
 use Rattle.keeping.proofs.Notes.{filled-few}
-use Rattle.keeping.proofs.Blocks.{Cleared, block-few, Along, none-kept, clear-lent, along-long, Here, here, place-clear, one-label, all-kept}
+use Rattle.rounds.proofs.Labels.{block-few}
+use Rattle.keeping.proofs.Blocks.{Cleared, Along, none-kept, clear-lent, along-long, Here, here, place-clear, one-label, all-kept}
 use borrow.Author.Needs.{needs}
 use native.Mathlib.Omega.{arith}
 use Rattle.keeping.proofs.keep_block.Statement.{statement}

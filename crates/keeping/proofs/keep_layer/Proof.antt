@@ -2,7 +2,7 @@
 use mathlib.Core.Path.{_≡_}
 use Prim.Native.Nat.{_-_, _<_}
 use lib.ListN.{length}
-use Rattle.keeping.proofs.Blocks.{block-few}
+use Rattle.rounds.proofs.Labels.{block-few}
 use Rattle.keeping.proofs.Layers.{Along, none-kept, along-long, Here, here, can-keep, one-block, all-kept}
 use borrow.Author.Needs.{needs}
 use native.Mathlib.Omega.{arith}

@@ -3,7 +3,8 @@ use mathlib.Core.Path.{sym, _∙_}
 use Prim.Native.Nat.{_+_, _-_, _*_, _≤_}
 use lib.ListN.{length}
 use Rattle.words.proofs.Choices.{not-true, not-false}
-use Rattle.tries.proofs.Fresh.{Past, none-past, few, all-past, step-in, found, one-past}
+use Rattle.rounds.proofs.Labels.{block-few}
+use Rattle.tries.proofs.Fresh.{Past, none-past, all-past, step-in, found, one-past}
 use borrow.Author.Needs.{needs}
 use native.Mathlib.Omega.{arith}
 use Rattle.tries.proofs.next_fresh.Statement.{statement}
@@ -17,7 +18,7 @@ abbrev μ-loop : tie.MeasureT-loop
 
 -- the words before the first cell are few
 few-words : (s : tie.Start Inv-loop μ-loop) → s .args .c * (s .args .d + 2) ≤ 5242880
-few-words s = few (s .args .d) (s .args .c) (s .pre .0) (omega (arith, s .pre .1, s .pre .2))
+few-words s = block-few (s .args .c) (s .args .d) (s .pre .0) (omega (arith, s .pre .1, s .pre .2))
 
 -- in the loop: cell i's step is in the block
 module _ (b : tie.In-loop Inv-loop μ-loop) where
