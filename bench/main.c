@@ -49,14 +49,14 @@ static uint32_t below(uint32_t count) {
     return (uint32_t)((state * 0x2545f4914f6cdd1du >> 32) % count);
 }
 
-/* A ring through all nodes, so that each is reached, and arcs between any two. Opposed: the first cost is high where the second
- * is low, so that few walks are better than others in both. */
+/* A ring through all nodes, so that each is reached, and arcs between any two different ones. Opposed: the first cost is high where
+ * the second is low, so that few walks are better than others in both. */
 static void draw(const struct row *row) {
     state = 88172645463325252u;
     for (uint32_t a = 0; a < row->arcs; a++) {
         uint32_t *arc = arcs + a * (row->criteria + 2);
         arc[0] = a < row->nodes ? a : below(row->nodes);
-        arc[1] = a < row->nodes ? (a + 1) % row->nodes : below(row->nodes);
+        arc[1] = (arc[0] + (a < row->nodes ? 1 : 1 + below(row->nodes - 1))) % row->nodes;
         for (uint32_t j = 0; j < row->criteria; j++)
             arc[2 + j] = below(row->most + 1);
         if (row->costs == OPPOSED) {
@@ -96,7 +96,7 @@ static uint64_t run(int which, const struct input *in) {
 /* The shortest of many proved builds of one table and nothing else: the same nodes, hops and ladders, but a single arc, of the largest
  * costs, which leads from a node that nothing reaches. So no label is tried: the layers are cleared and kept, as in every build. */
 static double lay_out(const struct row *row, const struct input *in) {
-    uint32_t arc[5] = {1, 1, 0, 0, 0};
+    uint32_t arc[5] = {1, 2, 0, 0, 0};
     for (uint32_t a = 0; a < in->m; a++)
         for (uint32_t j = 0; j < row->criteria; j++) {
             uint32_t cost = arcs[a * (row->criteria + 2) + 2 + j];

@@ -3,7 +3,7 @@
 use super::case::{about, packed, request_words, smaller_requests, Case};
 use super::model::back::{read_back, ReadBack};
 use super::model::damage::damage_labels;
-use super::model::gen::{edge_request, listed_request, small_request};
+use super::model::gen::{edge_request, listed_request, slip, small_request};
 use super::model::request::{refusal, shape, Request};
 use super::model::rng::Rng;
 use super::model::walks::table;
@@ -89,11 +89,12 @@ impl Case for ReadLabel {
 /// A label of a built table, of which half are damaged; now and then an asked
 /// place out of range, a buffer too short, or a request that is refused.
 pub fn to_read_back(rng: &mut Rng, turn: usize) -> ReadLabel {
-    let (request, arcs) = match turn % 16 {
+    let (request, mut arcs) = match turn % 16 {
         0 => edge_request(rng),
         1 | 2 => listed_request(rng),
         _ => small_request(rng),
     };
+    slip(rng, &request, &mut arcs);
     let mut labels = pattern_words(40);
     let mut asked = [0; 3];
     if let Ok(own) = shape(&request, &arcs) {

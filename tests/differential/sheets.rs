@@ -3,7 +3,7 @@
 
 use super::case::{about, packed, request_words, smaller_requests, Case};
 use super::model::damage::damage_sheet;
-use super::model::gen::{edge_request, large_request, listed_request, small_request};
+use super::model::gen::{edge_request, large_request, listed_request, slip, small_request};
 use super::model::gen_sheets::{edge_sheet, sheet, sized_sheet};
 use super::model::request::Request;
 use super::model::rng::Rng;
@@ -91,7 +91,8 @@ pub fn any_sheet(rng: &mut Rng, turn: usize) -> Vec<u8> {
         0 => sheet(rng),
         1 | 2 => edge_sheet(rng),
         3 => {
-            let (request, arcs) = listed_request(rng);
+            let (request, mut arcs) = listed_request(rng);
+            slip(rng, &request, &mut arcs);
             text(&request, &arcs)
         }
         4 if turn % 16 == 4 => {
@@ -99,7 +100,8 @@ pub fn any_sheet(rng: &mut Rng, turn: usize) -> Vec<u8> {
             sized_sheet(rng, size)
         }
         _ => {
-            let (request, arcs) = small_request(rng);
+            let (request, mut arcs) = small_request(rng);
+            slip(rng, &request, &mut arcs);
             text(&request, &arcs)
         }
     };

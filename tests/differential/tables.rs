@@ -1,7 +1,7 @@
 //! The build: every word of the ladders and labels, the tries, the refusals.
 
 use super::case::{about, packed, request_words, smaller_requests, Case};
-use super::model::gen::{edge_request, large_request, listed_request, small_request};
+use super::model::gen::{edge_request, large_request, listed_request, slip, small_request};
 use super::model::request::{shape, Request};
 use super::model::rng::Rng;
 use super::model::rounds::build;
@@ -68,12 +68,13 @@ impl Case for Build {
 /// A request to build: small, middling, now and then large, or with values at
 /// the limits and past them; its rooms are about what it needs.
 pub fn to_build(rng: &mut Rng, turn: usize) -> Build {
-    let (request, arcs) = match turn % 8 {
+    let (request, mut arcs) = match turn % 8 {
         0..=2 => small_request(rng),
         3 | 4 => listed_request(rng),
         5 if turn % 40 == 5 => large_request(rng),
         _ => edge_request(rng),
     };
+    slip(rng, &request, &mut arcs);
     let (ladder_words, label_words) =
         shape(&request, &arcs).map_or((8, 40), |own| (own.ladder_words(), own.label_words()));
     let (mut ladders, mut labels) = (ladder_words, label_words);

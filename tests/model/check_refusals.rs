@@ -96,28 +96,28 @@ fn rows() {
     for short in [1, 2, 3, 4, 6] {
         refused(b, &vec![0; short], 7, 0);
     }
-    taken(b, &vec![0; 5 * 512]);
-    refused(b, &vec![0; 5 * 513], 7, 0);
+    taken(b, &[0, 1, 0, 0, 0].repeat(512));
+    refused(b, &[0, 1, 0, 0, 0].repeat(513), 7, 0);
     refused(b, &vec![u32::MAX; 5 * 513], 7, 0);
-    taken(base(2), &[3, 3, 0, 1_000_000]);
+    taken(base(2), &[3, 2, 0, 1_000_000]);
     refused(base(2), &[4, 0, 0, 0], 8, 0);
-    refused(base(2), &[0, 0, 0, 0, 0, 4, 0, 0, 4, 0, 0, 0], 8, 1);
-    refused(base(2), &[0, 0, 0, 0, 0, 0, 0, 1_000_001], 8, 1);
+    refused(base(2), &[0, 1, 0, 0, 0, 4, 0, 0, 4, 0, 0, 0], 8, 1);
+    refused(base(2), &[0, 1, 0, 0, 0, 1, 0, 1_000_001], 8, 1);
     let exact = Request {
         ratios: [EXACT, EXACT],
         hops: 1,
-        nodes: 1,
+        nodes: 2,
         source: 0,
         ..b
     };
-    refused(exact, &[0, 0, 4_096, 4_096, 0], 9, 1);
-    refused(exact, &[0, 0, 0, 4_096, 0], 9, 2);
+    refused(exact, &[0, 1, 4_096, 4_096, 0], 9, 1);
+    refused(exact, &[0, 1, 0, 4_096, 0], 9, 2);
     // The last criterion has no ladder.
-    taken(exact, &[0, 0, 0, 4_095, 1_000_000]);
-    // 2 × 1 × 4,096 × 128 is 1,048,576; one more bucket is past it.
-    let full = shape(&exact, &[0, 0, 4_095, 127, 0]).expect("at the limit");
+    taken(exact, &[0, 1, 0, 4_095, 1_000_000]);
+    // 2 × 2 × 4,096 × 64 is 1,048,576; one more bucket is past it.
+    let full = shape(&exact, &[0, 1, 4_095, 63, 0]).expect("at the limit");
     assert_eq!(full.labels, MOST_LABELS);
-    refused(exact, &[0, 0, 4_095, 128, 0], 10, 0);
+    refused(exact, &[0, 1, 4_095, 64, 0], 10, 0);
 }
 
 /// "Lowest number first": each fault hides all the later ones.
@@ -131,7 +131,7 @@ fn order() {
         ratios: [bad, bad],
     };
     refused(own, &[9; 7], 2, 0);
-    own.nodes = 1;
+    own.nodes = 2;
     refused(own, &[9; 7], 3, 0);
     own.criteria = 3;
     refused(own, &[9; 7], 4, 0);
@@ -144,10 +144,10 @@ fn order() {
     own.ratios[1] = EXACT;
     refused(own, &[9; 7], 7, 0);
     refused(own, &[9; 10], 8, 0);
-    refused(own, &[0, 0, 4_095, 4_095, 0, 0, 1, 9_999, 9_999, 0], 8, 1);
-    refused(own, &[0, 0, 9_999, 9_999, 0], 9, 1);
-    refused(own, &[0, 0, 4_095, 9_999, 0], 9, 2);
-    refused(own, &[0, 0, 4_095, 4_095, 0], 10, 0);
+    refused(own, &[0, 1, 4_095, 4_095, 0, 0, 2, 9_999, 9_999, 0], 8, 1);
+    refused(own, &[0, 1, 9_999, 9_999, 0], 9, 1);
+    refused(own, &[0, 1, 4_095, 9_999, 0], 9, 2);
+    refused(own, &[0, 1, 4_095, 4_095, 0], 10, 0);
 }
 
 /// Rows 2 to 10.

@@ -84,9 +84,9 @@ pub fn damage_sheet(rng: &mut Rng, sheet: &mut Vec<u8>) {
             let ask = lines.pop().unwrap();
             let d_3 = lines[0].ends_with(b"\t3\n");
             let own: &[u8] = if d_3 {
-                b"arc\t0\t0\t0\t0\t0\n"
+                b"arc\t0\t1\t0\t0\t0\n"
             } else {
-                b"arc\t0\t0\t0\t0\n"
+                b"arc\t0\t1\t0\t0\n"
             };
             lines.truncate(1);
             lines.resize(1 + rng.pick(&[512, 513, 514]), own.to_vec());

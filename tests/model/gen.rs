@@ -49,7 +49,11 @@ struct Bounds {
 fn accepted(rng: &mut Rng, bounds: &Bounds) -> (Request, Vec<u32>) {
     loop {
         let criteria = rng.between(2, 3);
-        let nodes = rng.between(1, bounds.nodes);
+        let nodes = if rng.one_in(16) {
+            1
+        } else {
+            rng.between(2, bounds.nodes)
+        };
         let request = Request {
             nodes,
             criteria,
@@ -60,16 +64,18 @@ fn accepted(rng: &mut Rng, bounds: &Bounds) -> (Request, Vec<u32>) {
         let scale = rng.pick(&[0, 1, 3, 10, 50, 1_000, 50_000, 1_000_000]);
         let mut arcs = Vec::new();
         // Most arcs leave from a node that an earlier arc or the source gives,
-        // so that walks grow long.
+        // so that walks grow long; each leads to another node, so one node
+        // alone has none.
         let mut reached = vec![request.source];
-        for _ in 0..rng.below(bounds.arcs + 1) {
+        let most_arcs = if nodes > 1 { bounds.arcs } else { 0 };
+        for _ in 0..rng.below(most_arcs + 1) {
             let any = rng.one_in(4);
             let tail = if any {
                 rng.between(0, nodes - 1)
             } else {
                 rng.pick(&reached)
             };
-            let head = rng.between(0, nodes - 1);
+            let head = (tail + rng.between(1, nodes - 1)) % nodes;
             reached.push(head);
             arcs.extend([tail, head]);
             for _ in 0..criteria {
@@ -98,7 +104,7 @@ pub fn small_request(rng: &mut Rng) -> (Request, Vec<u32>) {
         &Bounds {
             nodes: 5,
             hops: 5,
-            arcs: 6,
+            arcs: 9,
             label_words,
         },
     )
@@ -131,6 +137,17 @@ pub fn listed_request(rng: &mut Rng) -> (Request, Vec<u32>) {
     )
 }
 
+/// A typing slip, one time in sixteen: one of the arcs leads from its tail to
+/// its tail. So rare, the rest is judged by what it was made for.
+pub fn slip(rng: &mut Rng, request: &Request, arcs: &mut [u32]) {
+    let words = request.criteria.clamp(2, 3) as usize + 2;
+    let count = arcs.len() / words;
+    if rng.one_in(16) && count > 0 {
+        let arc = rng.below(count) * words;
+        arcs[arc + 1] = arcs[arc];
+    }
+}
+
 /// A request with one to three values at a limit of "Sizes", just past it, as
 /// large as a word, or any word; accepted or refused.
 pub fn edge_request(rng: &mut Rng) -> (Request, Vec<u32>) {
@@ -138,6 +155,7 @@ pub fn edge_request(rng: &mut Rng) -> (Request, Vec<u32>) {
     for _ in 0..rng.between(1, 3) {
         edge(rng, &mut request, &mut arcs);
     }
+    slip(rng, &request, &mut arcs);
     (request, arcs)
 }
 
@@ -180,7 +198,16 @@ fn edge(rng: &mut Rng, request: &mut Request, arcs: &mut Vec<u32>) {
             }
         }
         7 => arcs.truncate(arcs.len() - rng.below(arcs.len().min(5) + 1)),
-        8 => arcs.resize(rng.pick(&[511, 512, 513]) * words, 0),
+        8 => {
+            // Arcs from node 0 to node 1, of costs 0.
+            let count = rng.pick(&[511, 512, 513]);
+            arcs.truncate(arcs.len() / words * words);
+            while arcs.len() < count * words {
+                arcs.extend([0, 1]);
+                arcs.extend(vec![0; words - 2]);
+            }
+            arcs.truncate(count * words);
+        }
         9 if arc + words <= arcs.len() => {
             let below = request.nodes.wrapping_sub(1);
             arcs[arc + rng.below(2)] = rng.pick(&[0, below, request.nodes, many]);
@@ -206,9 +233,9 @@ fn limit_of_a_table(rng: &mut Rng) -> (Request, Vec<u32>) {
     };
     match rng.below(5) {
         // B 4,096 or 4,097: K 1, then K 63 and a top of 63 × 65.
-        0 => (request(1, 2, 1), vec![0, 0, 4_095 + past, 7]),
-        1 => (request(1, 3, 1), vec![0, 0, 0, 4_095 + past, 7]),
-        2 => (request(1, 2, 63), vec![0, 0, 65 + past, 7]),
+        0 => (request(2, 2, 1), vec![0, 1, 4_095 + past, 7]),
+        1 => (request(2, 3, 1), vec![0, 1, 0, 4_095 + past, 7]),
+        2 => (request(2, 2, 63), vec![0, 1, 65 + past, 7]),
         // (K+1) × N × C: 2 × 64 × 4,096 × 2 and 4 × 64 × 64 × 64, both
         // 1,048,576.
         3 => (request(64, 3, 1), vec![0, 63, 4_095, 1 + past, 7]),
@@ -216,12 +243,15 @@ fn limit_of_a_table(rng: &mut Rng) -> (Request, Vec<u32>) {
     }
 }
 
-/// A request: accepted small, middling or large, or with edge values.
+/// A request: small, middling or large, accepted but for a slip, or with edge
+/// values.
 pub fn request(rng: &mut Rng) -> (Request, Vec<u32>) {
-    match rng.below(8) {
+    let (request, mut arcs) = match rng.below(8) {
         0..=2 => small_request(rng),
         3 | 4 => listed_request(rng),
         5 => large_request(rng),
-        _ => edge_request(rng),
-    }
+        _ => return edge_request(rng),
+    };
+    slip(rng, &request, &mut arcs);
+    (request, arcs)
 }

@@ -1,10 +1,11 @@
 //! Generated sheets.
 
-use super::gen::{edge_request, large_request, listed_request, small_request};
+use super::gen::{edge_request, large_request, listed_request, slip, small_request};
 use super::rng::Rng;
 use super::sheet::{text, MOST_SHEET};
 
-/// A sheet in form, of an accepted request, small or large.
+/// A sheet in form, of a request that is accepted but for a slip, small or
+/// large.
 pub fn sheet(rng: &mut Rng) -> Vec<u8> {
     let (request, mut arcs) = match rng.below(8) {
         0..=3 => small_request(rng),
@@ -15,6 +16,7 @@ pub fn sheet(rng: &mut Rng) -> Vec<u8> {
     while text(&request, &arcs).len() > MOST_SHEET {
         arcs.truncate(arcs.len() - words);
     }
+    slip(rng, &request, &mut arcs);
     text(&request, &arcs)
 }
 
@@ -33,7 +35,7 @@ pub fn edge_sheet(rng: &mut Rng) -> Vec<u8> {
         }
         3 => {
             let field = rng.pick(&["99999999", "100000000", "10000000", "1000001", "4294967296"]);
-            let mut at = ["1", "0", "0", "0", "0", "0", "1"];
+            let mut at = ["2", "0", "1", "0", "0", "0", "1"];
             at[rng.below(7)] = field;
             let [n, tail, head, c1, c2, source, k] = at;
             format!("tracks\t{n}\t2\narc\t{tail}\t{head}\t{c1}\t{c2}\nask\t{source}\t{k}\t1\t1\n")
@@ -85,7 +87,8 @@ pub fn sized_sheet(rng: &mut Rng, size: usize) -> Vec<u8> {
 
 /// An arc line of exactly so many bytes.
 fn arc_line(rng: &mut Rng, d: usize, length: usize) -> String {
-    let mut line = format!("arc\t{}\t{}", rng.below(2), rng.below(2));
+    let tail = rng.below(2);
+    let mut line = format!("arc\t{tail}\t{}", 1 - tail);
     let mut extra = length - (8 + 2 * d);
     for k in 0..d {
         let own = extra.div_ceil(d - k);

@@ -131,14 +131,14 @@ fn eleven_to_thirteen() {
     assert!(shape(&plain(1, 63, ratio(1, 1)), &[]).is_ok());
     assert_eq!(shape(&plain(1, 64, ratio(1, 1)), &[]), Err(refusal(5, 0)));
 
-    assert!(shape(&plain(1, 1, ratio(1, 1)), &[0, 0, 1_000_000, 1_000_000]).is_ok());
+    assert!(shape(&plain(2, 1, ratio(1, 1)), &[0, 1, 1_000_000, 1_000_000]).is_ok());
     assert_eq!(
-        shape(&plain(1, 1, ratio(1, 1)), &[0, 0, 1_000_001, 0]),
+        shape(&plain(2, 1, ratio(1, 1)), &[0, 1, 1_000_001, 0]),
         Err(refusal(8, 0))
     );
-    assert!(shape(&plain(1, 1, ratio(0, 1)), &[0, 0, 4_095, 0]).is_ok());
+    assert!(shape(&plain(2, 1, ratio(0, 1)), &[0, 1, 4_095, 0]).is_ok());
     assert_eq!(
-        shape(&plain(1, 1, ratio(0, 1)), &[0, 0, 4_096, 0]),
+        shape(&plain(2, 1, ratio(0, 1)), &[0, 1, 4_096, 0]),
         Err(refusal(9, 1))
     );
     assert_eq!(bucket_count(ratio(0, 1), 4_095), Some(4_096));

@@ -17,10 +17,10 @@ const LISTING_BYTES: usize = 2_000;
 fn by_hand() -> Vec<(String, &'static str)> {
     let asked = |k: &str, ratio: &str| format!("tracks\t1\t2\nask\t0\t{k}\t{ratio}\n");
     let of_cost = |cost: &str, ratio: &str| {
-        format!("tracks\t1\t2\narc\t0\t0\t{cost}\t0\nask\t0\t1\t{ratio}\n")
+        format!("tracks\t2\t2\narc\t0\t1\t{cost}\t0\nask\t0\t1\t{ratio}\n")
     };
     let one = "cover\t1\t0\nlabel\t0\t0\t0\t0\n";
-    let kept = "cover\t2\t1\nlabel\t0\t0\t0\t0\nlabel\t0\t1000000\t0\t1\t0\n";
+    let placed = "cover\t2\t1\nlabel\t0\t0\t0\t0\nlabel\t1\t1000000\t0\t1\t0\n";
     vec![
         // 11. "Ratio 1/1 accepted; 2/1 and 0/0 refused 6. K 63 accepted, 64 refused 5."
         (asked("1", "1\t1"), one),
@@ -29,8 +29,8 @@ fn by_hand() -> Vec<(String, &'static str)> {
         (asked("63", "1\t1"), one),
         (asked("64", "1\t1"), "refused\t5\t0\n"),
         // 12. "Cost 1,000,000 passes check 8, 1,000,001 does not. Ratio 0/1, K 1: first cost 4,095 passes check 9,
-        // 4,096 does not." A table of 2 × 4,096 labels has 32,768 words, more than the lister's 12,288.
-        (of_cost("1000000", "1\t1"), kept),
+        // 4,096 does not." A table of 2 × 2 × 4,096 labels has 65,536 words, more than the lister's 12,288.
+        (of_cost("1000000", "1\t1"), placed),
         (of_cost("1000001", "1\t1"), "refused\t8\t0\n"),
         (of_cost("4095", "0\t1"), "refused\t13\t2\n"),
         (of_cost("4096", "0\t1"), "refused\t9\t1\n"),
