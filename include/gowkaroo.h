@@ -32,7 +32,8 @@ static inline uint32_t gowkaroo_number(uint64_t answer) { return (uint32_t)(answ
 static inline uint32_t gowkaroo_byte(uint64_t answer) { return (uint32_t)(answer >> 32) & 0xffff; }
 static inline uint32_t gowkaroo_low(uint64_t answer) { return (uint32_t)answer; }
 
-/* The numbers, and what the place says. */
+/* The numbers, and what the place says. 8 and 17 are weighed together, arc by arc, where "2 to 10" has 8: in each arc the nodes'
+ * ranges first (8), then a loop (17), then the costs (8). */
 enum {
     GOWKAROO_DONE = 0,                 /* no refusal: low is a count */
     GOWKAROO_REFUSED_FORM = 1,         /* sheet form: the first bad line, from 1; one more than the lines if `ask` is missing */
@@ -50,7 +51,8 @@ enum {
     GOWKAROO_REFUSED_BUFFER = 13,      /* a lent buffer is too short: the first such; each function says which is which */
     GOWKAROO_REFUSED_ASKED = 14,       /* the asked layer is over K, the node not below N or the cell not below C */
     GOWKAROO_REFUSED_EMPTY = 15,       /* the asked cell is empty: its step is 0 */
-    GOWKAROO_REFUSED_BROKEN = 16       /* the chain is broken: the layer where it breaks */
+    GOWKAROO_REFUSED_BROKEN = 16,      /* the chain is broken: the layer where it breaks */
+    GOWKAROO_REFUSED_LOOP = 17         /* an arc leads from a node to itself: the first such arc, from 0 */
 };
 
 /* ---- Sizes that always suffice ---- */
@@ -84,14 +86,14 @@ enum {
 /* Lists a sheet: reader, build and listing in one call, with arc, ladder and label words of its own (about 90 KB of stack). The
  * listing goes to the front of `listing`: a line `cover` with the filled labels of the last layer and the tries, then a line
  * `label` for each of them, with node, costs, arc count and arc numbers; fields are parted by tabs, and every line ends in LF.
- * Low: the listing's length in bytes, always under 53,000. Refusals, in this order: 12, 1, 2 to 10, 13 (2: the table has over
- * 12,288 words, which this call has of its own; 3: listing). */
+ * Low: the listing's length in bytes, always under 53,000. Refusals, in this order: 12, 1, 2 to 10 with 17, 13 (2: the table has
+ * over 12,288 words, which this call has of its own; 3: listing). */
 uint64_t gowkaroo_list(const uint8_t *sheet, size_t sheet_len,
                        uint8_t *listing, size_t listing_len);
 
 /* Reads a sheet. The request goes to the eight words of `request`, the arcs' words to the front of `arcs`.
- * Low: how many words of `arcs` were filled. Refusals, in this order: 12, 1, 13 (1: arcs). Ranges are judged by the
- * build: a sheet in form is read whatever its numbers are. */
+ * Low: how many words of `arcs` were filled. Refusals, in this order: 12, 1, 13 (1: arcs). Ranges and loops are judged by
+ * the build: a sheet in form is read whatever its numbers are. */
 uint64_t gowkaroo_read(const uint8_t *sheet, size_t sheet_len,
                        uint32_t request[GOWKAROO_REQUEST_WORDS],
                        uint32_t *arcs, size_t arcs_len);
@@ -105,7 +107,7 @@ uint64_t gowkaroo_write(const uint32_t request[GOWKAROO_REQUEST_WORDS],
 /* Draws up the table of a request. The ladders go one after another to the front of `ladders`, B + 1 words each; the
  * layers 0 to K to the front of `labels`: the label of layer i, node v, cell c starts at word
  * ((i x N + v) x C + c) x (d + 2) and is its costs, its step, its from.
- * Low: the sum of all tries, at most 2^29. Refusals: 2 to 10, 13 (1: ladders, 2: labels). */
+ * Low: the sum of all tries, at most 2^29. Refusals: 2 to 10 with 17, 13 (1: ladders, 2: labels). */
 uint64_t gowkaroo_build(const uint32_t request[GOWKAROO_REQUEST_WORDS],
                         const uint32_t *arcs, size_t arcs_len,
                         uint32_t *ladders, size_t ladders_len,
@@ -114,7 +116,7 @@ uint64_t gowkaroo_build(const uint32_t request[GOWKAROO_REQUEST_WORDS],
 /* Reads the label of a layer, node and cell back as a route. It trusts nothing in `labels`: a damaged table is told as such.
  * The route's costs go to the three words of `costs` (with d = 2 the third is 0), its arc numbers in travel order to the front
  * of `route`.
- * Low: the route's arc count. Refusals: 2 to 10, 13 (1: labels, 2: route under K words), 14, 15 (an empty cell), 16. */
+ * Low: the route's arc count. Refusals: 2 to 10 with 17, 13 (1: labels, 2: route under K words), 14, 15 (an empty cell), 16. */
 uint64_t gowkaroo_read_back(const uint32_t request[GOWKAROO_REQUEST_WORDS],
                             const uint32_t *arcs, size_t arcs_len,
                             const uint32_t *labels, size_t labels_len,

@@ -1,4 +1,4 @@
-/* A readable message for each refusal number of document 01. */
+/* A readable message for each refusal number of documents 01 and 02. */
 #ifndef GOWKAROO_EXAMPLE_REFUSAL_H
 #define GOWKAROO_EXAMPLE_REFUSAL_H
 
@@ -6,7 +6,7 @@
 
 #include "gowkaroo.h"
 
-/* How the place of a refusal reads: nothing where document 01 names none. */
+/* How the place of a refusal reads: nothing where none is named. */
 struct refusal_words {
     const char *what;
     const char *place;
@@ -30,6 +30,7 @@ static struct refusal_words refusal_words(uint32_t number) {
     case GOWKAROO_REFUSED_ASKED: return (struct refusal_words){"there is no such layer, node or cell", 0};
     case GOWKAROO_REFUSED_EMPTY: return (struct refusal_words){"the asked cell is empty", 0};
     case GOWKAROO_REFUSED_BROKEN: return (struct refusal_words){"the chain of labels is broken", "layer"};
+    case GOWKAROO_REFUSED_LOOP: return (struct refusal_words){"an arc leads from a node to itself", "arc"};
     default: return (struct refusal_words){"a number that is not in the table", "place"};
     }
 }

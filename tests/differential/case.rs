@@ -3,7 +3,7 @@
 //! disagree.
 
 use super::model::fences::Ratio;
-use super::model::request::{Refusal, Request};
+use super::model::request::{Refusal, Request, NUMBERS};
 use super::model::rng::Rng;
 use super::pipe::{Asked, Outcome, Planner};
 
@@ -88,7 +88,7 @@ pub fn smaller_requests(request: &Request, arcs: &[u32]) -> Vec<(Request, Vec<u3
 }
 
 /// How often each number was answered.
-pub type Seen = [usize; 17];
+pub type Seen = [usize; NUMBERS];
 
 /// Runs so many generated cases. A disagreement is told on the smallest input
 /// that was found for it.
@@ -99,7 +99,7 @@ pub fn run<C: Case>(
     make: fn(&mut Rng, usize) -> C,
 ) -> Result<Seen, String> {
     let mut rng = Rng::new(seed);
-    let mut seen = [0; 17];
+    let mut seen = [0; NUMBERS];
     for turn in 0..count {
         let case = make(&mut rng, turn);
         let wanted = case.wanted();

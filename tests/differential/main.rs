@@ -28,7 +28,7 @@ type Part = (
     fn(&mut Planner) -> Result<Seen, String>,
 );
 
-const PARTS: [Part; 5] = [
+const PARTS: [Part; 8] = [
     ("sheets read", &[0, 1, 12, 13], |planner| {
         run(planner, 101, 24_000, sheets::to_read)
     }),
@@ -37,19 +37,28 @@ const PARTS: [Part; 5] = [
     }),
     (
         "tables built",
-        &[0, 2, 3, 4, 5, 6, 7, 8, 9, 10, 13],
+        &[0, 2, 3, 4, 5, 6, 7, 8, 9, 10, 13, 17],
         |planner| run(planner, 103, 6_000, tables::to_build),
     ),
     (
         "labels read back",
-        &[0, 2, 3, 4, 5, 6, 7, 8, 9, 10, 13, 14, 15, 16],
+        &[0, 2, 3, 4, 5, 6, 7, 8, 9, 10, 13, 14, 15, 16, 17],
         |planner| run(planner, 104, 24_000, routes::to_read_back),
     ),
     (
         "sheets listed",
-        &[0, 1, 2, 4, 5, 6, 8, 9, 10, 12, 13],
+        &[0, 1, 2, 4, 5, 6, 8, 9, 10, 12, 13, 17],
         |planner| run(planner, 105, 24_000, listings::to_list),
     ),
+    ("vector f9, read", &[0], |planner| {
+        run(planner, 0, 1, sheets::loop_to_read)
+    }),
+    ("vector f9, written", &[0], |planner| {
+        run(planner, 0, 1, sheets::loop_to_write)
+    }),
+    ("vector f10, read back", &[17], |planner| {
+        run(planner, 0, 1, routes::loop_to_read_back)
+    }),
 ];
 
 /// The counts in words.
@@ -58,7 +67,12 @@ fn told(seen: &Seen) -> String {
         .filter(|&number| seen[number] > 0)
         .map(|number| format!("{number}: {}", seen[number]))
         .collect();
-    format!("{} done; refused {}", seen[0], refusals.join(", "))
+    let refused = if refusals.is_empty() {
+        "none".to_string()
+    } else {
+        refusals.join(", ")
+    };
+    format!("{} done; refused {refused}", seen[0])
 }
 
 fn main() -> ExitCode {

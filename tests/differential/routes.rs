@@ -6,6 +6,7 @@ use super::model::damage::damage_labels;
 use super::model::gen::{edge_request, listed_request, slip, small_request};
 use super::model::request::{refusal, shape, Request};
 use super::model::rng::Rng;
+use super::model::vectors::loop_at_one;
 use super::model::walks::table;
 use super::pipe::{bytes_of, pattern_words, Asked, Outcome, OP_READ_BACK};
 
@@ -83,6 +84,19 @@ impl Case for ReadLabel {
             "read back layer, node, cell {:?}, room for {} route words: {:?}, arc words {:?}, {} label words, 0 but (word, value) {filled:?}",
             self.asked, self.room, self.request, self.arcs, self.labels.len()
         )
+    }
+}
+
+/// Request f, vector 10: with no label words, no route words and layer 9, a
+/// track from a camp to itself is what is refused.
+pub fn loop_to_read_back(_: &mut Rng, _: usize) -> ReadLabel {
+    let (request, arcs) = loop_at_one();
+    ReadLabel {
+        request,
+        arcs,
+        labels: Vec::new(),
+        asked: [9, 0, 0],
+        room: 0,
     }
 }
 

@@ -8,6 +8,7 @@ use super::model::gen_sheets::{edge_sheet, sheet, sized_sheet};
 use super::model::request::Request;
 use super::model::rng::Rng;
 use super::model::sheet::{read, text, write, MOST_SHEET};
+use super::model::vectors::{loop_at_one, loop_at_one_sheet};
 use super::pipe::{bytes_of, pattern_words, Asked, Outcome, OP_READ, OP_WRITE};
 
 /// A sheet to read, with room for so many arc words.
@@ -113,6 +114,14 @@ pub fn any_sheet(rng: &mut Rng, turn: usize) -> Vec<u8> {
     own
 }
 
+/// Request f, vector 9: a track from a camp to itself is read.
+pub fn loop_to_read(_: &mut Rng, _: usize) -> ReadSheet {
+    ReadSheet {
+        sheet: loop_at_one_sheet().into_bytes(),
+        room: 4,
+    }
+}
+
 /// A sheet to read; its room is about what it needs.
 pub fn to_read(rng: &mut Rng, turn: usize) -> ReadSheet {
     let sheet = any_sheet(rng, turn);
@@ -173,6 +182,16 @@ impl Case for WriteSheet {
             "write, room for {} bytes: {:?}, arc words {:?}",
             self.room, self.request, self.arcs
         )
+    }
+}
+
+/// Request f, vector 9: a track from a camp to itself is written.
+pub fn loop_to_write(_: &mut Rng, _: usize) -> WriteSheet {
+    let (request, arcs) = loop_at_one();
+    WriteSheet {
+        request,
+        arcs,
+        room: loop_at_one_sheet().len(),
     }
 }
 

@@ -23,9 +23,9 @@ struct Found<'a> {
     from: u32,
 }
 
-/// "2 to 10, 13 (1 labels, 2 route buffer under K words), 14, 15, 16", else a
-/// route, whose arc numbers are written "in travel order; later words of the
-/// route buffer stay".
+/// "2 to 10 [17 with 8], 13 (1 labels, 2 route buffer under K words), 14, 15,
+/// 16", else a route, whose arc numbers are written "in travel order; later
+/// words of the route buffer stay".
 pub fn read_back(
     request: &Request,
     arcs: &[u32],

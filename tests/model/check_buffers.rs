@@ -5,7 +5,7 @@ use super::hand::{example, SHEET};
 use super::model::back::{read_back, ReadBack};
 use super::model::fences::Ratio;
 use super::model::gen::{edge_request, request};
-use super::model::request::{refusal, shape, Refusal, Request};
+use super::model::request::{refusal, shape, Refusal, Request, NUMBERS};
 use super::model::rng::Rng;
 use super::model::rounds::build;
 use super::model::sheet::{read, write, MOST_NUMBER, MOST_SHEET};
@@ -163,7 +163,7 @@ fn sheets() {
 /// fills its own words and leaves those beyond.
 fn generated() -> usize {
     let mut rng = Rng::new(13);
-    let mut seen = [0_usize; 17];
+    let mut seen = [0_usize; NUMBERS];
     for turn in 0..1_500 {
         let (request, arcs) = if turn % 50 == 0 {
             request(&mut rng)
@@ -201,7 +201,7 @@ fn generated() -> usize {
             }
         }
     }
-    for number in [0, 2, 3, 4, 5, 6, 7, 8, 9, 10, 13] {
+    for number in [0, 2, 3, 4, 5, 6, 7, 8, 9, 10, 13, 17] {
         assert!(seen[number] > 0, "no request was refused {number}");
     }
     seen.iter().sum()

@@ -1,4 +1,4 @@
-//! Rows 2 to 10, each at its limit and past it, and their order.
+//! Rows 2 to 10 and 17, each at its limit and past it, and their order.
 
 use super::model::fences::Ratio;
 use super::model::request::{refusal, shape, Request, MOST_LABELS};
@@ -28,7 +28,7 @@ fn taken(request: Request, arcs: &[u32]) {
     assert!(shape(&request, arcs).is_ok(), "{request:?}");
 }
 
-/// Rows 2 to 10 at their limits, in order.
+/// Each row at its limits, in order.
 fn rows() {
     let b = base(3);
     for (nodes, right) in [
@@ -103,6 +103,10 @@ fn rows() {
     refused(base(2), &[4, 0, 0, 0], 8, 0);
     refused(base(2), &[0, 1, 0, 0, 0, 4, 0, 0, 4, 0, 0, 0], 8, 1);
     refused(base(2), &[0, 1, 0, 0, 0, 1, 0, 1_000_001], 8, 1);
+    refused(base(2), &[3, 3, 0, 1_000_000], 17, 0);
+    refused(base(2), &[0, 1, 0, 0, 2, 2, 0, 0, 4, 0, 0, 0], 17, 1);
+    refused(base(2), &[4, 4, 0, 0], 8, 0);
+    refused(base(2), &[2, 2, 1_000_001, 0], 17, 0);
     let exact = Request {
         ratios: [EXACT, EXACT],
         hops: 1,
@@ -120,7 +124,8 @@ fn rows() {
     refused(exact, &[0, 1, 4_095, 64, 0], 10, 0);
 }
 
-/// "Lowest number first": each fault hides all the later ones.
+/// "Lowest number first", and 17 where 8 is: each fault hides all the later
+/// ones.
 fn order() {
     let bad = Ratio { p: 2, q: 1 };
     let mut own = Request {
@@ -145,14 +150,15 @@ fn order() {
     refused(own, &[9; 7], 7, 0);
     refused(own, &[9; 10], 8, 0);
     refused(own, &[0, 1, 4_095, 4_095, 0, 0, 2, 9_999, 9_999, 0], 8, 1);
+    refused(own, &[0, 1, 9_999, 9_999, 0, 1, 1, 0, 0, 0], 17, 1);
     refused(own, &[0, 1, 9_999, 9_999, 0], 9, 1);
     refused(own, &[0, 1, 4_095, 9_999, 0], 9, 2);
     refused(own, &[0, 1, 4_095, 4_095, 0], 10, 0);
 }
 
-/// Rows 2 to 10.
+/// Rows 2 to 10 and 17.
 pub fn refusals() -> String {
     rows();
     order();
-    "rows 2 to 10 at their limits and in their order".to_string()
+    "rows 2 to 10 and 17 at their limits and in their order".to_string()
 }

@@ -7,7 +7,7 @@ use super::model::gen::{
     small_request,
 };
 use super::model::listing::{list, lister, pack, LIST_LABEL_WORDS};
-use super::model::request::{refusal, Refusal, Request};
+use super::model::request::{refusal, Refusal, Request, NUMBERS};
 use super::model::rng::Rng;
 use super::model::sheet::{read, text, write, MOST_SHEET};
 
@@ -254,7 +254,7 @@ pub fn c_call() -> String {
     );
     let mut rng = Rng::new(3);
     let mut longest = 0;
-    let mut seen = [0_usize; 17];
+    let mut seen = [0_usize; NUMBERS];
     for turn in 0..1_500 {
         let mut own = if turn % 3 == 0 {
             sheet(&mut rng)
@@ -288,7 +288,7 @@ pub fn c_call() -> String {
         }
     }
     // Rows 3 and 7 are out of a sheet's reach: its reader refuses the form.
-    for number in [0, 1, 2, 4, 5, 6, 8, 9, 10, 12, 13] {
+    for number in [0, 1, 2, 4, 5, 6, 8, 9, 10, 12, 13, 17] {
         assert!(seen[number] > 0, "no sheet was answered {number}");
     }
     let (request, arcs) = small_request(&mut rng);

@@ -114,11 +114,13 @@ fn eight() {
     assert_eq!(tries, 0);
 }
 
-/// 9 and 10: a loop, and an equal last cost.
+/// 9 and 10: a track from a camp to itself ("Case 9 becomes a refusal"), and
+/// an equal last cost.
 fn nine_and_ten() {
-    let (costs, tries) = costs_at(&plain(1, 2, ratio(1, 1)), &[0, 0, 1, 1], 2, 0);
-    assert_eq!(costs, [[0, 0], [1, 1]]);
-    assert_eq!(tries, 3);
+    assert_eq!(
+        shape(&plain(1, 2, ratio(1, 1)), &[0, 0, 1, 1]),
+        Err(refusal(17, 0))
+    );
     let (costs, _) = costs_at(&plain(2, 1, ratio(1, 1)), &[0, 1, 5, 5, 0, 1, 4, 5], 1, 1);
     assert_eq!(costs, [[5, 5]]);
 }

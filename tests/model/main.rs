@@ -10,6 +10,7 @@ mod check_buffers;
 mod check_refusals;
 mod check_sheets;
 mod check_tables;
+mod check_vectors;
 mod hand;
 mod trials;
 
@@ -18,9 +19,10 @@ use std::panic::catch_unwind;
 use std::process::ExitCode;
 
 /// A group of checks answers what it looked at; a failed one panics.
-const GROUPS: [(&str, fn() -> String); 12] = [
+const GROUPS: [(&str, fn() -> String); 13] = [
     ("numbers to check by hand", hand::numbers),
     ("the printed sheet", hand::printed_sheet),
+    ("vectors of the requests", check_vectors::vectors),
     ("refusals", check_refusals::refusals),
     ("lent buffers", check_buffers::lent),
     ("fences", check_tables::fences),

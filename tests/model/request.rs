@@ -1,4 +1,4 @@
-//! The request, its sizes, and the checks of rows 2 to 10.
+//! The request, its sizes, and the checks of rows 2 to 10 and 17.
 
 use super::fences::{bucket_count, Ratio};
 
@@ -28,6 +28,9 @@ pub struct Request {
     /// is not in use.
     pub ratios: [Ratio; 2],
 }
+
+/// An answer's numbers: 0, and the refusals' 1 to 17.
+pub const NUMBERS: usize = 18;
 
 /// "A refusal returns number and place; place is 0 where none is named."
 #[derive(Clone, Copy, Debug, PartialEq, Eq)]
@@ -107,7 +110,24 @@ pub fn arc(arcs: &[u32], words: usize, a: usize) -> Arc<'_> {
     }
 }
 
-/// Rows 2 to 10, "Lowest number first", or the shape of an accepted request.
+/// What an arc is refused with, if it is: "In each arc the node ranges are
+/// weighed first, then this, then the costs" (document 02, request f).
+fn fault(nodes: u32, arc: &Arc) -> Option<u32> {
+    let faults = [
+        // 8: "arc's node or cost out of range".
+        (arc.tail.max(arc.head) >= nodes, 8),
+        // 17: "No tracks from a camp to itself."
+        (arc.tail == arc.head, 17),
+        (arc.costs.iter().any(|&cost| cost > MOST_COST), 8),
+    ];
+    faults
+        .iter()
+        .find(|(holds, _)| *holds)
+        .map(|(_, number)| *number)
+}
+
+/// Rows 2 to 10, "Lowest number first", 17 "weighed together with 8", or the
+/// shape of an accepted request.
 pub fn shape(request: &Request, arcs: &[u32]) -> Result<Shape, Refusal> {
     // 2: N.
     if request.nodes < 1 || request.nodes > MOST_NODES {
@@ -137,14 +157,11 @@ pub fn shape(request: &Request, arcs: &[u32]) -> Result<Shape, Refusal> {
     if arcs.len() % words != 0 || arcs.len() / words > MOST_ARCS {
         return Err(refusal(7, 0));
     }
-    // 8: "arc's node or cost out of range", "first such arc from 0".
+    // 8 and 17: "the first arc with any of these faults decides", from 0.
     let count = arcs.len() / words;
     for a in 0..count {
-        let arc = arc(arcs, words, a);
-        let nodes_right = arc.tail < request.nodes && arc.head < request.nodes;
-        let costs_right = arc.costs.iter().all(|&cost| cost <= MOST_COST);
-        if !nodes_right || !costs_right {
-            return Err(refusal(8, a));
+        if let Some(number) = fault(request.nodes, &arc(arcs, words, a)) {
+            return Err(refusal(number, a));
         }
     }
     // 9: "B over 4,096", "first such criterion from 1". "A criterion's ladder

@@ -102,8 +102,9 @@ fn round(
     (own, tries)
 }
 
-/// The build: "2 to 10, 13 (1 ladders, 2 labels)", else the ladders "stored
-/// one ladder after another", layers 0 to K, and "the sum of all tries".
+/// The build: "2 to 10 [17 with 8], 13 (1 ladders, 2 labels)", else the
+/// ladders "stored one ladder after another", layers 0 to K, and "the sum of
+/// all tries".
 /// "what lies beyond the part an answer fills stays as it was".
 pub fn build(
     request: &Request,

@@ -6,6 +6,7 @@ use super::model::damage::damage_sheet;
 use super::model::gen_sheets::{edge_sheet, sheet, sized_sheet};
 use super::model::listing::lister;
 use super::model::rng::Rng;
+use super::model::vectors;
 
 /// Kept small, so that the stored files can be read: most sheets are at most
 /// so long, and print at most so much.
@@ -61,11 +62,11 @@ fn damaged(rng: &mut Rng) -> Vec<u8> {
     sheet
 }
 
-/// All sheets in order: by hand, at the limits of length, then in form, at
-/// the limits of "Sizes", damaged.
+/// All sheets in order: by hand, the requests' vectors, at the limits of
+/// length, then in form, at the limits of "Sizes", damaged.
 pub fn sheets() -> Vec<Vec<u8>> {
     let mut sheets = Vec::new();
-    for (sheet, listing) in by_hand() {
+    for (sheet, listing) in by_hand().into_iter().chain(vectors::sheets()) {
         assert_eq!(lister(sheet.as_bytes()), listing.as_bytes(), "{sheet}");
         sheets.push(sheet.into_bytes());
     }

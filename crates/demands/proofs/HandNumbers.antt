@@ -22,7 +22,7 @@ pub hand-numbers : HandNumbers
 unfolding before common digitsAfter number item numbers lineOf kindOf linesFrom sheetOf asks input outside sizeRows ratioRow arcWordsRow arcFault arcRow bucketRow labelRow askRows arcRows shapeRows rows weigh labelCount any each upTo total write at put join volume radix fence.fence fence.fences fence.passed fence.position fence.buckets lower ratioP ratioQ arcCount arc tail head arcCosts reach largestOf largest top buckets position cells cell costs step from filled empty start kept sum candidate came wins block blank startBlock startLayer keepCell keepBlock keepAll offer tryCell tryArc arcStep round layer labelOf labelAt filledIn roundTries tries sheet loop equal held
 hand-numbers = record {
   above = refl;
-  accepted = (refl, refl, refl, refl, refl);
+  accepted = (refl, refl, refl, refl);
   one = refl;
   two = (refl, refl);
   three = refl;
@@ -31,6 +31,6 @@ hand-numbers = record {
   six = (refl, refl);
   seven = (refl, refl);
   eight = (refl, refl, refl, refl, refl);
-  nine = (refl, refl);
+  nine = refl;
   ten = refl;
 }

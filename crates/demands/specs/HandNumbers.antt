@@ -5,7 +5,7 @@ use mathlib.Core.Bool.{cond}
 use mathlib.Core.List.{List, [], _∷_, _++_, map}
 use lib.ListN.{drop}
 use Rattle.words.specs.Loops.{upTo}
-use Rattle.words.specs.Rows.{clear, weigh}
+use Rattle.words.specs.Rows.{clear, refused, weigh}
 use Rattle.fences.specs.Fence.{fences, position}
 use Rattle.request.specs.Request.{Req, asked}
 use Rattle.request.specs.Shape.{top, buckets, cells}
@@ -38,7 +38,7 @@ pub record HandNumbers : Type 0 where
   pub above : asks input ≡ sheet 2 1 1
   pub accepted :
       (weigh (rows (sheet 2 1 1)) ≡ clear) × (weigh (rows (sheet 2 0 1)) ≡ clear) × (weigh (rows (sheet 0 1 1)) ≡ clear)
-      × (weigh (rows loop) ≡ clear) × (weigh (rows equal) ≡ clear)
+      × (weigh (rows equal) ≡ clear)
   -- 1. "Ratio 1/2: 0, 1, 2, 4, 7, 11, 17, 26, 40."
   pub one : fences 1 2 9 ≡ 0 ∷ 1 ∷ 2 ∷ 4 ∷ 7 ∷ 11 ∷ 17 ∷ 26 ∷ 40 ∷ []
   -- 2. "Ratio 1/1: 0, 1, 3, 7, 15, 31. Ratio 0/1: 0, 1, 2, 3."
@@ -57,7 +57,7 @@ pub record HandNumbers : Type 0 where
   pub eight :
       (held (sheet 0 1 1) 0 0 ≡ (0 ∷ 0 ∷ 0 ∷ []) ∷ []) × (held (sheet 0 1 1) 0 1 ≡ []) × (held (sheet 0 1 1) 0 2 ≡ []) × (held (sheet 0 1 1) 0 3 ≡ [])
       × (tries (sheet 0 1 1) 0 ≡ 0)
-  -- 9. "node 0 holds (0, 0) and (1, 1); tries 3."
-  pub nine : (held loop 2 0 ≡ (0 ∷ 0 ∷ 0 ∷ []) ∷ (1 ∷ 1 ∷ 1 ∷ []) ∷ []) × (tries loop 2 ≡ 3)
+  -- 9, by request (f): "Case 9 becomes a refusal", of its one arc
+  pub nine : weigh (rows loop) ≡ refused 17 0
   -- 10. "(5, 5) stays."
   pub ten : held equal 1 1 ≡ (2 ∷ 5 ∷ 5 ∷ []) ∷ []

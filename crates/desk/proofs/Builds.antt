@@ -1,21 +1,19 @@
 -- The build's answers have room in a packed number. Assumes nothing.
 use Prim.Native.Nat.{ℕ, _+_, _-_, _<_}
 use mathlib.Core.Path.{_≡_, refl}
-use mathlib.Core.Bool.{_||_}
 use mathlib.Core.List.{List, [], _∷_, _++_}
 use native.Mathlib.Omega.{arith}
-use lib.ListN.{length, getD}
-use lib.Dec.{T, leb, ltb}
-use Rattle.words.specs.Loops.{any}
+use lib.ListN.{length}
+use lib.Dec.{T, ltb}
 use Rattle.words.specs.Pieces.{at}
 use Rattle.words.specs.Rows.{Weighed, clear, weigh, each}
 use Rattle.words.proofs.Rows.{weigh-clear-front}
-use Rattle.words.proofs.Choices.{cond-cases}
 use Rattle.request.specs.declared.Request.{Request}
 use Rattle.request.specs.Request.{Req, asked, arcCount}
 use Rattle.request.specs.Rows.{sizeRows, ratioRow, arcWordsRow, arcFault, arcRow, bucketRow, labelRow, askRows, arcRows, shapeRows, rows}
 use Rattle.request.specs.Accepted.{Accepted}
 use Rattle.request.proofs.Accepted.{sizes-facts, words-facts, accepted-regular, accepted-small, accepted-fits}
+use Rattle.request.proofs.Branches.{fault-cases}
 use Rattle.rounds.specs.Rounds.{tries}
 use Rattle.table.specs.Build.{buildRows, answer, builtOf}
 use Rattle.listing.proofs.Rooms.{tries-few}
@@ -37,13 +35,13 @@ words-room : (words w : ℕ) → Room (arcWordsRow words w .number) (arcWordsRow
 unfolding arcWordsRow
 words-room words w = small-room 7 0 tt
 
--- an arc at fault has number 8
+-- an arc at fault has number 8 or 17
 fault-room : (n d : ℕ) (w : List ℕ) (a : ℕ) → a < 512 → T (ltb 0 (arcFault n d w)) → Room (arcFault n d w) a
-unfolding arcFault
 fault-room n d w a h =
-    cond-cases (λ (x : ℕ). T (ltb 0 x) → Room x a) (leb n (getD w 0 0) || leb n (getD w 1 0) || any (λ j. ltb 1000000 (getD w (j + 2) 0)) d)
-    (λ _ _. record { some = omega arith; few = omega arith; near = omega arith })
-    (λ _ t. absurd t)
+    fault-cases (λ (x : ℕ). T (ltb 0 x) → Room x a) n d w
+    (λ _. record { some = omega arith; few = omega arith; near = omega arith })
+    (λ _. record { some = omega arith; few = omega arith; near = omega arith })
+    (λ t. absurd t)
 
 arc-room : (n d : ℕ) (arcs : List ℕ) (a : ℕ) → a < 512 → T (arcRow n d arcs a .holds) → Room (arcRow n d arcs a .number) (arcRow n d arcs a .place)
 unfolding arcRow

@@ -47,7 +47,7 @@ module _ (R : Req) (bytes : List ℕ) where
   unfolding requestListed requestAfter
   refuses n p e = record { says = rw e refl; left = rw e refl }
 
-  -- rows 2 to 10
+  -- rows 2 to 10 with 17
   pub lists-early : (r : Refusal) → weigh (rows R) ≡ refused (r .number) (r .place) → Lists R bytes (listed.Refused r) bytes
   unfolding requestRows
   lists-early r e = refuses (r .number) (r .place) (weigh-front (rows R) _ (r .number) (r .place) e)

@@ -26,7 +26,7 @@ asks s = asked (requestOf (sheetOf s)) (wordsOf (sheetOf s))
 unfoldable pub listingOf : Req → List ℕ
 listingOf R = listingText R (table R) (tries R (R .hops))
 
--- "2 to 10", and "its 13 has place 2 for those [12,288 label words] and 3 for a listing longer than the byte buffer" of so many bytes
+-- "2 to 10" with 17, and "its 13 has place 2 for those [12,288 label words] and 3 for a listing longer than the byte buffer" of so many bytes
 unfoldable pub requestRows : Req → ℕ → List Row
 requestRows R room =
     rows R

@@ -56,7 +56,7 @@ fn list_shaped(request: Request, arcs: &[u32], shape: Shape, listing: &mut [u8])
     }
 }
 
-// The listing of a request, or the first refusal of rows 2 to 10 and 13.
+// The listing of a request, or the first refusal of rows 2 to 10 with 17, and 13.
 fn list_request(request: Request, arcs: &[u32], listing: &mut [u8]) -> Listed
     ensures { λ r. ⌜ r ≡ requestListed (asked request (now (arcs .entry))) (length (now (listing .entry))) ⌝ }
     ensures { λ _. ⌜ now (listing .exit) ≡ requestAfter (asked request (now (arcs .entry))) (now (listing .entry)) ⌝ }

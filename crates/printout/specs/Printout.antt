@@ -10,7 +10,7 @@ use Rattle.sheet.specs.Reader.{formRows}
 use Rattle.listing.specs.Listing.{refusalLine}
 use Rattle.listing.specs.List.{asks, listingOf}
 
--- "Reader: 12, 1", "Build: 2 to 10" and 13 with place 2 for a table of more than "the same 12,288 words"; no row for a listing that is too long
+-- "Reader: 12, 1", "Build: 2 to 10" with 17, and 13 with place 2 for a table of more than "the same 12,288 words"; no row for a listing that is too long
 unfoldable pub printoutRows : List ℕ → List Row
 printoutRows s = formRows s ++ rows (asks s) ++ record { number = 13; holds = ltb 12288 (labelCount (asks s) * width (asks s)); place = 2 } ∷ []
 

@@ -7,4 +7,5 @@ pub mod Exceptions
 pub mod Says
 pub mod Refusals
 pub mod Demands
+pub mod Loopless
 pub mod StandIns

@@ -1,3 +1,4 @@
 pub mod Settled
 pub mod Says
 pub mod StandIns
+pub mod Loopless

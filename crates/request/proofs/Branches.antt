@@ -1,14 +1,15 @@
 -- The rows that each weighing function goes through, decided from its branches. Assumes nothing.
 use Prim.Native.Nat.{ℕ, _+_, _*_, _/_, _%_, _≤_, _<_}
 use mathlib.Core.Path.{_≡_, sym, ap, _∙_}
-use mathlib.Core.Bool.{Bool, not, _||_}
+use mathlib.Core.Bool.{Bool, cond, not, _||_}
 use mathlib.Core.List.{List, [], _∷_}
 use lib.ListN.{getD}
-use lib.Dec.{T, leb, ltb}
+use lib.Dec.{T, leb, ltb, eqb}
+use borrow.Author.Tests.{eq-eqb, ne-eqb}
 use Rattle.words.specs.Loops.{any}
 use Rattle.words.specs.Pieces.{at}
 use Rattle.words.specs.Rows.{clear, refused, weigh, each}
-use Rattle.words.proofs.Choices.{cond-true, cond-false, or-left, or-right, or-neither}
+use Rattle.words.proofs.Choices.{cond-cases, cond-true, cond-false, or-left, or-right, or-neither}
 use Rattle.words.proofs.Rows.{weigh-none, weigh-held, weigh-passed, each-refused}
 use Rattle.request.specs.Rows.{outside, sizeRows, ratioRow, arcWordsRow, arcFault, arcRow}
 use Rattle.request.proofs.Tests.{lt-holds, lt-fails, le-holds, le-fails}
@@ -77,30 +78,56 @@ module _ (words w : ℕ) where
   unfolding arcWordsRow
   words-good h g = weigh-passed _ _ (or-neither (ltb 0 (words % w)) (ltb 512 (words / w)) (lt-fails h) (lt-fails g)) ∙ weigh-none
 
--- ---- row 8
+-- ---- row 8 with 17
+
+-- an arc's fault is 8, 17 or none
+pub fault-cases {κ} : (P : ℕ → Type κ) (n d : ℕ) (w : List ℕ) → P 8 → P 17 → P 0 → P (arcFault n d w)
+unfolding arcFault
+fault-cases P n d w eight seventeen none =
+    cond-cases P (leb n (getD w 0 0) || leb n (getD w 1 0)) (λ _. eight)
+    (λ _. cond-cases P (eqb (getD w 0 0) (getD w 1 0)) (λ _. seventeen) (λ _. cond-cases P (any (λ j. ltb 1000000 (getD w (j + 2) 0)) d) (λ _. eight) (λ _. none)))
 
 module _ (n d : ℕ) (w : List ℕ) where
   abbrev over : Bool
   over = any (λ j. ltb 1000000 (getD w (j + 2) 0)) d
 
-  abbrev bad : Bool
-  bad = leb n (getD w 0 0) || leb n (getD w 1 0) || over
+  abbrev off : Bool
+  off = leb n (getD w 0 0) || leb n (getD w 1 0)
+
+  abbrev costly : ℕ
+  costly = cond over 8 0
+
+  abbrev looped : ℕ
+  looped = cond (eqb (getD w 0 0) (getD w 1 0)) 17 costly
 
   pub fault-tail : n ≤ getD w 0 0 → arcFault n d w ≡ 8
   unfolding arcFault
-  fault-tail h = cond-true bad 8 0 (or-left (leb n (getD w 0 0) || leb n (getD w 1 0)) over (or-left (leb n (getD w 0 0)) (leb n (getD w 1 0)) (le-holds h)))
+  fault-tail h = cond-true off 8 looped (or-left (leb n (getD w 0 0)) (leb n (getD w 1 0)) (le-holds h))
 
   pub fault-head : n ≤ getD w 1 0 → arcFault n d w ≡ 8
   unfolding arcFault
-  fault-head h = cond-true bad 8 0 (or-left (leb n (getD w 0 0) || leb n (getD w 1 0)) over (or-right (leb n (getD w 0 0)) (leb n (getD w 1 0)) (le-holds h)))
+  fault-head h = cond-true off 8 looped (or-right (leb n (getD w 0 0)) (leb n (getD w 1 0)) (le-holds h))
 
-  pub fault-cost : T (any (λ j. ltb 1000000 (getD w (j + 2) 0)) d) → arcFault n d w ≡ 8
-  unfolding arcFault
-  fault-cost t = cond-true bad 8 0 (or-right (leb n (getD w 0 0) || leb n (getD w 1 0)) over t)
+  -- its nodes are in range
+  module _ (tail-in : getD w 0 0 < n) (head-in : getD w 1 0 < n) where
+    on : T (not off)
+    on = or-neither (leb n (getD w 0 0)) (leb n (getD w 1 0)) (le-fails tail-in) (le-fails head-in)
 
-  pub fault-none : getD w 0 0 < n → getD w 1 0 < n → T (not (any (λ j. ltb 1000000 (getD w (j + 2) 0)) d)) → arcFault n d w ≡ 0
-  unfolding arcFault
-  fault-none h g t = cond-false bad 8 0 (or-neither (leb n (getD w 0 0) || leb n (getD w 1 0)) over (or-neither (leb n (getD w 0 0)) (leb n (getD w 1 0)) (le-fails h) (le-fails g)) t)
+    pub fault-loop : getD w 0 0 ≡ getD w 1 0 → arcFault n d w ≡ 17
+    unfolding arcFault
+    fault-loop e = cond-false off 8 looped on ∙ ap (λ (b : Bool). cond b 17 costly) (eq-eqb (getD w 0 0) (getD w 1 0) e)
+
+    -- and they are two
+    module _ (two : getD w 0 0 ≡ getD w 1 0 → ⊥) where
+      past : arcFault n d w ≡ costly
+      unfolding arcFault
+      past = cond-false off 8 looped on ∙ ap (λ (b : Bool). cond b 17 costly) (ne-eqb (getD w 0 0) (getD w 1 0) two)
+
+      pub fault-cost : T (any (λ j. ltb 1000000 (getD w (j + 2) 0)) d) → arcFault n d w ≡ 8
+      fault-cost t = past ∙ cond-true over 8 0 t
+
+      pub fault-none : T (not (any (λ j. ltb 1000000 (getD w (j + 2) 0)) d)) → arcFault n d w ≡ 0
+      fault-none t = past ∙ cond-false over 8 0 t
 
 module _ (n d : ℕ) (arcs : List ℕ) (a : ℕ) where
   pub arc-good : arcFault n d (at (d + 2) arcs a) ≤ 0 → T (not (arcRow n d arcs a .holds))

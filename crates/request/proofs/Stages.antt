@@ -22,7 +22,7 @@ decided w r xs ys e s = ap said e ∙ sym (weigh-front xs ys (r .number) (r .pla
 pub was-clear : (w : Weighing) (xs : List Row) → w ≡ weighing.Clear → said w ≡ weigh xs → weigh xs ≡ clear
 was-clear w xs e s = sym s ∙ ap said e
 
--- rows 2 to 8 of a request
+-- rows 2 to 8 of a request, with 17
 module _ (q : Request) (arcs : List ℕ) where
   abbrev S : List Row
   S = sizeRows (q .nodes) (q .criteria) (q .source) (q .hops)

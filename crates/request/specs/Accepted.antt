@@ -1,11 +1,12 @@
--- What a request is that no row of 2 to 10 refuses: in the words of the rows, and in plain facts. Assumes nothing.
+-- What a request is that no row refuses: in the words of the rows, and in plain facts; and which arc is refused first. Assumes nothing.
 use Prim.Native.Nat.{ℕ, _*_, _≤_, _<_}
 use mathlib.Core.Path.{_≡_}
+use mathlib.Core.List.{[], _∷_, _++_}
 use lib.ListN.{length, getD}
 use Rattle.words.specs.Rows.{clear, weigh}
-use Rattle.request.specs.Request.{Req, width, arcCount, arcCosts, tail, head, ratioP, ratioQ}
+use Rattle.request.specs.Request.{Req, width, arcCount, arc, arcCosts, tail, head, ratioP, ratioQ}
 use Rattle.request.specs.Shape.{buckets, labelCount}
-use Rattle.request.specs.Rows.{rows}
+use Rattle.request.specs.Rows.{arcWordsRow, arcFault, askRows, rows}
 
 -- "an accepted request": no row holds
 unfoldable pub Accepted : Req → Type 0
@@ -18,6 +19,19 @@ pub record Regular (R : Req) : Type 0 where
   pub tail-in : (a : ℕ) → a < arcCount R → tail R a < R .nodes
   pub head-in : (a : ℕ) → a < arcCount R → head R a < R .nodes
   pub ratio-in : (j : ℕ) → j < R .graded → 0 < ratioQ R j
+
+-- request (f), "No tracks from a camp to itself": no arc's tail is its head
+abbrev pub Loopless : Req → Type 0
+Loopless R = (a : ℕ) → a < arcCount R → tail R a ≡ head R a → ⊥
+
+-- "the first arc with any of these faults decides", where that is arc a and its fault is to lead from a camp to itself: rows 2 to 7 do not hold, no arc
+-- before it has a fault, and its one camp is in range; its costs may be anything
+pub record FirstLoop (R : Req) (a : ℕ) : Type 0 where
+  pub rows-before : weigh (askRows R ++ arcWordsRow (length (R .arcs)) (width R) ∷ []) ≡ clear
+  pub inside : a < arcCount R
+  pub arcs-before : (b : ℕ) → b < a → arcFault (R .nodes) (R .criteria) (arc R b) ≡ 0
+  pub tail-in : tail R a < R .nodes
+  pub loops : tail R a ≡ head R a
 
 -- what the code uses besides, to see that nothing wraps: of rows 2 to 8
 pub record Small (R : Req) : Type 0 where

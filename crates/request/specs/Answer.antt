@@ -37,7 +37,7 @@ shapedOf n k b1 b2 =
     (checked.Refused (record { number = 10; place = 0 }))
     (checked.Shaped (record { b1 = b1; b2 = b2; cells = b1 * b2; labels = (k + 1) * (n * (b1 * b2)) }))
 
--- the answer of `check`: the first refusal of rows 2 to 10, or the table's shape
+-- the answer of `check`: the first refusal of rows 2 to 10 with 17, or the table's shape
 unfoldable pub checkedOf : Req → Checked
 checkedOf R = answer (weigh (rows R)) (shapeOf R)
 

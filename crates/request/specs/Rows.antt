@@ -1,9 +1,9 @@
--- Document 01, "Refusal numbers": rows 2 to 10, in its order. Assumes nothing.
+-- Document 01, "Refusal numbers": rows 2 to 10, and with row 8 request (f)'s 17 (document 02), in their order. Assumes nothing.
 use Prim.Native.Nat.{ℕ, _+_, _*_, _/_, _%_}
 use mathlib.Core.Bool.{Bool, cond, _||_}
 use mathlib.Core.List.{List, [], _∷_, _++_}
 use lib.ListN.{length, getD}
-use lib.Dec.{leb, ltb}
+use lib.Dec.{leb, ltb, eqb}
 use Rattle.words.specs.Loops.{any}
 use Rattle.words.specs.Pieces.{at}
 use Rattle.words.specs.Rows.{Row, each}
@@ -35,11 +35,15 @@ ratioRow ratios j = record {
 unfoldable pub arcWordsRow : ℕ → ℕ → Row
 arcWordsRow words w = record { number = 7; holds = ltb 0 (words % w) || ltb 512 (words / w); place = 0 }
 
--- the number that an arc's words are refused with, 0 for none: its nodes below n, its d costs at most 1,000,000
+-- the number that an arc's words are refused with, 0 for none: "In each arc the node ranges are weighed first, then this [17, a track from a camp to
+-- itself], then the costs"
 unfoldable pub arcFault : ℕ → ℕ → List ℕ → ℕ
-arcFault n d w = cond (leb n (getD w 0 0) || leb n (getD w 1 0) || any (λ j. ltb 1000000 (getD w (j + 2) 0)) d) 8 0
+arcFault n d w =
+    cond (leb n (getD w 0 0) || leb n (getD w 1 0)) 8
+    (cond (eqb (getD w 0 0) (getD w 1 0)) 17
+    (cond (any (λ j. ltb 1000000 (getD w (j + 2) 0)) d) 8 0))
 
--- row 8: "arc's node or cost out of range"; "first such arc from 0"
+-- row 8, "arc's node or cost out of range", and 17, "weighed together with 8 in that order within an arc"; "first such arc from 0"
 unfoldable pub arcRow : ℕ → ℕ → List ℕ → ℕ → Row
 arcRow n d arcs a = record { number = arcFault n d (at (d + 2) arcs a); holds = ltb 0 (arcFault n d (at (d + 2) arcs a)); place = a }
 
@@ -55,7 +59,7 @@ labelRow R = record { number = 10; holds = ltb 1048576 (labelCount R); place = 0
 unfoldable pub askRows : Req → List Row
 askRows R = sizeRows (R .nodes) (R .criteria) (R .source) (R .hops) ++ each (ratioRow (R .ratios)) (R .graded)
 
--- rows 7 and 8
+-- rows 7, and 8 with 17
 unfoldable pub arcRows : Req → List Row
 arcRows R = arcWordsRow (length (R .arcs)) (width R) ∷ each (arcRow (R .nodes) (R .criteria) (R .arcs)) (arcCount R)
 
@@ -63,6 +67,6 @@ arcRows R = arcWordsRow (length (R .arcs)) (width R) ∷ each (arcRow (R .nodes)
 unfoldable pub shapeRows : Req → List Row
 shapeRows R = each (bucketRow R) (R .graded) ++ labelRow R ∷ []
 
--- rows 2 to 10
+-- rows 2 to 10, with 17
 unfoldable pub rows : Req → List Row
 rows R = askRows R ++ arcRows R ++ shapeRows R

@@ -1,4 +1,4 @@
-// What the planner is asked, and the first refusal of rows 2 to 10 or the shape of the table that it will draw up.
+// What the planner is asked, and the first refusal of rows 2 to 10 with 17, or the shape of the table that it will draw up.
 mod weigh;
 
 use fences::Buckets;
@@ -150,7 +150,7 @@ fn judge_labels(q: Request, b1: u32, b2: u32) -> Checked
     })
 }
 
-// The first refusal of rows 2 to 10, or the shape of the table.
+// The first refusal of rows 2 to 10 with 17, or the shape of the table.
 pub fn check(q: Request, arcs: &[u32]) -> Checked
     ensures { λ r. ⌜ r ≡ checkedOf (asked q (now (arcs .entry))) ⌝ }
 {

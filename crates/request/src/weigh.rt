@@ -1,4 +1,4 @@
-// Rows 2 to 8 of a request: its sizes, its ratios, how many words its arcs have, and each arc.
+// Rows 2 to 8 of a request, with 17: its sizes, its ratios, how many words its arcs have, and each arc.
 use crate::Refusal;
 use crate::Request;
 use crate::Weighing;
@@ -109,13 +109,16 @@ fn arc_fault(arc: &[u32], n: u32, d: usize) -> u32
     if n <= arc[1] {
         return 8;
     }
+    if arc[0] == arc[1] {
+        return 17;
+    }
     if cost_over(arc, d) {
         return 8;
     }
     0
 }
 
-// Row 8.
+// Row 8 with 17: the first arc that has a fault.
 fn weigh_arcs(arcs: &[u32], n: u32, d: usize) -> Weighing
     requires { ⌜ (d ≤ 3) × (length (now arcs) / (d + 2) ≤ 512) ⌝ }
     ensures { λ r. ⌜ said r ≡ weigh (each (arcRow n d (now (arcs .entry))) (length (now (arcs .entry)) / (d + 2))) ⌝ }
@@ -135,7 +138,7 @@ fn weigh_arcs(arcs: &[u32], n: u32, d: usize) -> Weighing
     Weighing::Clear
 }
 
-// Rows 2 to 8.
+// Rows 2 to 8, with 17.
 pub(crate) fn weigh_asked(q: Request, arcs: &[u32]) -> Weighing
     ensures { λ r. ⌜ said r ≡ weigh (askRows (asked q (now (arcs .entry))) ++ arcRows (asked q (now (arcs .entry)))) ⌝ }
 {

@@ -29,7 +29,8 @@ use Rattle.route.specs.Answer.{breaks, arcsOf, backRows, refusal, ended,
 use Rattle.route.specs.Walked.{Walked, Sound, RouteRead, Fronts}
 use Rattle.route.specs.declared.Ending.the-variants as ending
 use Rattle.route.proofs.Sound.{chain-sound}
-use Rattle.route.proofs.Answering.{layer-asked, Placed, empty-cell, chain-broken, chain-whole, three, none, Answered, route-all}
+use Rattle.route.proofs.Numbers.{early-number}
+use Rattle.route.proofs.Answering.{refused-early, layer-asked, Placed, empty-cell, chain-broken, chain-whole, three, none, Answered, route-all}
 use Rattle.route.proofs.Tables.{label-in, table-whole}
 
 -- ---- an ending tells how the rows were weighed
@@ -162,6 +163,16 @@ module _ (R : Req) (W : List ℕ) (room i v c : ℕ) where
         go : Dec (step R (labelIn R W i v c) ≡ 0) → step R (labelIn R W i v c) ≡ 0
         go (yes z) = z
         go (no h) = absurd (not-empty h (chain R W i v c) refl e)
+
+-- an empty cell is told of an accepted request alone
+pub empty-accepted : (R : Req) (W : List ℕ) (room i v c : ℕ) → endingOf R W room i v c ≡ ending.Empty → Accepted R
+unfolding endingOf Accepted
+empty-accepted R W room i v c e = go (weigh (rows R)) refl
+  where
+    go : (w : Weighed) → weigh (rows R) ≡ w → weigh (rows R) ≡ clear
+    go clear q = q
+    go (refused n p) q =
+        absurd (early-number R n p q (empty-number n p (sym (ap (λ (w : Weighed). ended w (length (arcsOf (chain R W i v c)))) (refused-early R W room i v c n p q)) ∙ e)))
 
 -- ---- A ROUTE ON ANY LABEL BUFFER
 

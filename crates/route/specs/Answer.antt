@@ -30,7 +30,7 @@ abbrev pub arcsOf : Chain → List ℕ
 arcsOf (whole ws) = ws
 arcsOf (broken i) = []
 
--- "Read-back: 2 to 10, 13 (1 labels, 2 route buffer under K words), 14, 15, 16": of a request, a table's words, room for a route and an asked place
+-- "Read-back: 2 to 10 [17 with 8], 13 (1 labels, 2 route buffer under K words), 14, 15, 16": of a request, a table's words, room for a route and an asked place
 unfoldable pub backRows : Req → List ℕ → ℕ → ℕ → ℕ → ℕ → List Row
 backRows R W room i v c =
     rows R

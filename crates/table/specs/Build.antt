@@ -20,7 +20,7 @@ use Rattle.tries.specs.Frame.{Ranged}
 use Rattle.table.specs.declared.Built.{Built}
 use Rattle.table.specs.declared.Built.the-variants as built
 
--- "Build: 2 to 10, 13 (1 ladders, 2 labels)": of a request and two buffers of so many words
+-- "Build: 2 to 10 [17 with 8], 13 (1 ladders, 2 labels)": of a request and two buffers of so many words
 unfoldable pub buildRows : Req → ℕ → ℕ → List Row
 buildRows R ladderRoom labelRoom =
     rows R

@@ -28,7 +28,7 @@ graded-two d two three = go (ℕ-discrete d 2)
 
 -- ---- what has been found clear
 
--- rows 2 to 8
+-- rows 2 to 8 with 17
 module _ (c : tie.After-enum-told) where
   abbrev start-of : tie.Start
   start-of = c .before .before .before .before

@@ -35,7 +35,7 @@ returns c =
     let W = a .labels .now in
     let B = a .route .now in
     let w = refused-is R (c .before .before .checked .given .0 .0) (sym (c .before .before .checked .given .1) ∙ c .before .before .before .before .check .ensures) in
-    refused-all R W B (a .layer) (a .node) (a .cell) _ _ (c .refuse .ensures .1) _ _ (refused-early R W (length B) (a .layer) (a .node) (a .cell) _ _ w) (λ z. let n = early-number R _ _ w in absurd (omega arith)) (c .refuse .ensures .0)
+    refused-all R W B (a .layer) (a .node) (a .cell) _ _ (c .refuse .ensures .1) _ _ (refused-early R W (length B) (a .layer) (a .node) (a .cell) _ _ w) (early-number R _ _ w) (c .refuse .ensures .0)
 
 same-length : tie.Need-same-length
 same-length c = search needs
