@@ -8,12 +8,12 @@ use native.Mathlib.Omega.{arith}
 use lib.ListN.{length}
 use Rattle.words.specs.Pieces.{join}
 use Rattle.words.specs.Bounds.{AtMost}
+use Rattle.words.proofs.Choices.{lt-or-le}
 use Rattle.words.proofs.Loops.{total-le}
 use Rattle.words.proofs.Pieces.{join-total}
 use Rattle.words.proofs.Bounds.{atMost-at, atMost-drop}
 use Rattle.text.specs.Number.{digits}
 use Rattle.text.specs.Line.{partedWidth, lineText}
-use Rattle.text.proofs.Fields.{lt-or-le}
 use Rattle.text.proofs.Digits.{width-within, width-one}
 use Rattle.text.proofs.Puts.{width-append, line-width}
 use Rattle.sheet.specs.Grammar.{tab}

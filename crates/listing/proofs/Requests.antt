@@ -9,9 +9,9 @@ use lib.ListN.{length, take}
 use borrow.Author.Tests.{lt-ltb, le-ltb}
 use Rattle.words.specs.Pieces.{write}
 use Rattle.words.specs.Rows.{Weighed, clear, refused, weigh, settle}
+use Rattle.words.proofs.Choices.{lt-or-le}
 use Rattle.words.proofs.Rows.{weigh-append, weigh-front, weigh-held, weigh-passed, weigh-none}
 use Rattle.words.proofs.Writes.{part-write-same}
-use Rattle.text.proofs.Fields.{lt-or-le}
 use Rattle.request.specs.declared.Request.{Request}
 use Rattle.request.specs.declared.Refusal.{Refusal}
 use Rattle.request.specs.declared.Shape.{Shape}

@@ -10,12 +10,11 @@ use lib.Seq.{take-length}
 use lib.Dec.{T}
 use Rattle.words.specs.Bounds.{AtMost}
 use Rattle.words.specs.Rows.{clear, weigh}
-use Rattle.words.proofs.Choices.{cond-cases}
+use Rattle.words.proofs.Choices.{cond-cases, lt-or-le}
 use Rattle.words.proofs.Loops.{total-le}
 use Rattle.words.proofs.Rows.{weigh-append, weigh-passed, weigh-none}
 use Rattle.text.specs.Number.{digits}
 use Rattle.text.specs.Line.{partedWidth}
-use Rattle.text.proofs.Fields.{lt-or-le}
 use Rattle.text.proofs.Digits.{width-word}
 use Rattle.text.proofs.Puts.{line-width}
 use Rattle.request.specs.declared.Request.{Request}

@@ -6,11 +6,11 @@ use mathlib.Core.Logic.{_⊎_, inl, inr}
 use lib.ListN.{getD}
 use lib.Seq.{ext-getD}
 use denote.Ref.{now}
+use Rattle.words.proofs.Choices.{lt-or-le}
 use Rattle.words.proofs.Radix.{radix-ext}
 use Rattle.fences.specs.Answer.{Slot}
 use Rattle.fences.specs.Fence.{ladder}
 use Rattle.fences.proofs.Ladders.{slot-position}
-use Rattle.text.proofs.Fields.{lt-or-le}
 use Rattle.labels.specs.Words.{ladderIn}
 use Rattle.promises.specs.Settled.{Settled, SettledAs, SettledIn}
 use Rattle.promises.proofs.Agree.{agree, passed, lent}

@@ -8,9 +8,10 @@ use native.Mathlib.Numerals.{add-one}
 use native.Mathlib.Nat.{add-mul, one-mul}
 use lib.ListN.{length, take, drop}
 use lib.Seq.{drop-append-seam, take-append-seam}
+use Rattle.words.proofs.Choices.{lt-or-le}
 use Rattle.text.specs.Field.{before}
 use Rattle.text.specs.Line.{parted, lineText}
-use Rattle.text.proofs.Fields.{lt-or-le, before-found}
+use Rattle.text.proofs.Fields.{before-found}
 use Rattle.text.proofs.Written.{lineOf-was}
 use Rattle.sheet.specs.Grammar.{lf, tab, tracksWord, arcWord, askWord, kindOf, whole, linesFrom, sheetOf}
 use Rattle.sheet.specs.Rendering.{arcLines, sheetText, Sheetable}

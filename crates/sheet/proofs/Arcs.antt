@@ -10,11 +10,11 @@ use lib.ListN.{length, drop, length-append}
 use lib.Dec.{ltb, eqb}
 use borrow.Author.Tests.{ltb-true}
 use Rattle.words.specs.Bounds.{AtMost}
+use Rattle.words.proofs.Choices.{lt-or-le}
 use Rattle.words.proofs.Bounds.{atMost-none, atMost-append}
 use Rattle.text.specs.Field.{before}
 use Rattle.text.specs.Number.{largest}
 use Rattle.text.specs.Line.{Got, good, bad}
-use Rattle.text.proofs.Fields.{lt-or-le}
 use Rattle.text.proofs.Written.{lineOf-was}
 use Rattle.sheet.specs.Grammar.{lf, tab, arcWord, askWord, arcLine, askLine, Kind, anArc, anAsk, neither, orAsk, arcOr, kindOf, Contents, whole, broken, judge, linesFrom}
 use Rattle.sheet.proofs.Scan.{lines-at, lines-last}

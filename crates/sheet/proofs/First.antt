@@ -9,11 +9,11 @@ use native.Mathlib.Nat.{zero-mul}
 use lib.ListN.{length, getD, drop}
 use lib.Dec.{eqb}
 use borrow.Author.Tests.{lt-ltb, le-ltb, ne-eqb, eqb-true}
+use Rattle.words.proofs.Choices.{lt-or-le}
 use Rattle.words.proofs.Bounds.{atMost-at}
 use Rattle.text.specs.Field.{before}
 use Rattle.text.specs.Number.{largest}
 use Rattle.text.specs.Line.{Got, good, bad}
-use Rattle.text.proofs.Fields.{lt-or-le}
 use Rattle.text.proofs.Written.{lineOf-was}
 use Rattle.sheet.specs.Grammar.{lf, tab, tracksWord, tracksLine, whole, broken, linesFrom, afterFirst, sheetOf}
 use Rattle.sheet.specs.Rendering.{Sheetable}

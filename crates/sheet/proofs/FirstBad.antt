@@ -7,11 +7,12 @@ use mathlib.Core.Logic.{_⊎_, inl, inr, ⊎-elim}
 use native.Mathlib.Omega.{arith}
 use lib.ListN.{length, drop, length-append, length-drop, replicate, length-replicate}
 use lib.Dec.{eqb}
+use Rattle.words.proofs.Choices.{lt-or-le}
 use Rattle.words.proofs.Bounds.{atMost-none, atMost-replicate}
 use Rattle.text.specs.Field.{before}
 use Rattle.text.specs.Number.{largest}
 use Rattle.text.specs.Line.{Got, good, bad, lineText}
-use Rattle.text.proofs.Fields.{lt-or-le, before-found}
+use Rattle.text.proofs.Fields.{before-found}
 use Rattle.text.specs.Fault.{Begins}
 use Rattle.sheet.specs.Grammar.{lf, tab, askWord, tracksLine, Kind, anArc, anAsk, neither, kindOf, Contents, whole, broken, addArc, atEnd, judge, linesFrom, afterFirst, sheetOf}
 use Rattle.sheet.specs.Rendering.{sheetText}

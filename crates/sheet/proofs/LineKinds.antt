@@ -8,11 +8,11 @@ use native.Mathlib.Omega.{arith}
 use lib.ListN.{length, getD, drop, drop-of-length-le}
 use borrow.Author.Tests.{lt-ltb, le-ltb}
 use Rattle.words.specs.Pieces.{write}
+use Rattle.words.proofs.Choices.{lt-or-le}
 use Rattle.words.proofs.Writes.{write-front, spelled-all}
 use Rattle.text.specs.declared.Line.{Line}
 use Rattle.text.specs.declared.Line.the-variants.{Good, Bad}
 use Rattle.text.specs.Line.{Got, good, bad, lineOf, answerOf, takenOf}
-use Rattle.text.proofs.Fields.{lt-or-le}
 use Rattle.text.proofs.Written.{lineOf-was}
 use Rattle.sheet.specs.declared.reader.Asked.{Asked}
 use Rattle.sheet.specs.declared.reader.LineKind.the-variants.{Arc}

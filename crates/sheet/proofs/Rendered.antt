@@ -10,11 +10,12 @@ use lib.ListN.{length, take, drop, length-drop, length-take, take-append-drop}
 use lib.Dec.{ltb, eqb}
 use borrow.Author.Tests.{lt-ltb, eq-eqb, eqb-false}
 use Rattle.words.specs.Bounds.{AtMost}
+use Rattle.words.proofs.Choices.{lt-or-le}
 use Rattle.words.proofs.Bounds.{atMost-none, atMost-cons, atMost-take, atMost-drop}
 use Rattle.text.specs.Field.{before, common}
 use Rattle.text.specs.Number.{digits, largest}
 use Rattle.text.specs.Line.{good, bad, lineOf, parted, lineText}
-use Rattle.text.proofs.Fields.{lt-or-le, before-pass, before-first}
+use Rattle.text.proofs.Fields.{before-pass, before-first}
 use Rattle.text.proofs.Written.{before-digits, lineOf-parted}
 use Rattle.sheet.specs.Grammar.{lf, tab, tracksWord, arcWord, askWord, anArc, anAsk, orAsk, arcOr, kindOf, whole, broken, judge, linesFrom, sheetOf}
 use Rattle.sheet.specs.Rendering.{arcLines, sheetText, Sheetable}

@@ -11,11 +11,11 @@ use lib.Seq.{drop-append-seam, take-append-seam, length-take-le}
 use lib.Dec.{eqb}
 use Rattle.words.specs.Pieces.{write}
 use Rattle.words.specs.Bounds.{AtMost}
+use Rattle.words.proofs.Choices.{lt-or-le}
 use Rattle.words.proofs.Bounds.{atMost-at, atMost-none, atMost-cons, atMost-append, atMost-take, atMost-drop}
 use Rattle.words.proofs.Writes.{spelled-all}
 use Rattle.request.specs.declared.Request.{Request}
 use Rattle.text.specs.Number.{largest, anyOver}
-use Rattle.text.proofs.Fields.{lt-or-le}
 use Rattle.text.proofs.Numbers.{not-over, over-not}
 use Rattle.sheet.specs.declared.Outcome.the-variants.{Sheet}
 use Rattle.sheet.specs.declared.Writing.the-variants.{Bytes}

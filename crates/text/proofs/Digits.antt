@@ -8,10 +8,10 @@ use native.Mathlib.Omega.{arith}
 use lib.ListN.{length, getD, length-append, List·getD-append}
 use lib.Dec.{leb, eqb}
 use borrow.Author.Tests.{lt-ltb, le-ltb, le-leb, leb-true, eqb-true, eqb-false}
+use Rattle.words.proofs.Choices.{lt-or-le}
 use Rattle.text.specs.declared.Number.{Number}
 use Rattle.text.specs.declared.Number.the-variants.{Value, Fault}
 use Rattle.text.specs.Number.{isDigit, digitsAfter, zeroAlone, number, digitsWithin, digits, largest}
-use Rattle.text.proofs.Fields.{lt-or-le}
 use Rattle.text.proofs.Numbers.{number-first}
 
 -- a number below 10 is one digit

@@ -8,13 +8,14 @@ use native.Mathlib.Omega.{arith}
 use lib.ListN.{length, take, length-append}
 use lib.Dec.{eqb}
 use borrow.Author.Tests.{eqb-true}
+use Rattle.words.proofs.Choices.{lt-or-le}
 use Rattle.text.specs.declared.Number.{Number}
 use Rattle.text.specs.declared.Number.the-variants.{Value, Fault}
 use Rattle.text.specs.declared.Item.the-variants.{Found, Wrong}
 use Rattle.text.specs.Field.{before}
 use Rattle.text.specs.Number.{number, digits, largest}
 use Rattle.text.specs.Line.{placed, item}
-use Rattle.text.proofs.Fields.{lt-or-le, before-length, before-inside, before-through, take-before}
+use Rattle.text.proofs.Fields.{before-length, before-inside, before-through, take-before}
 use Rattle.text.proofs.Numbers.{number-fault}
 use Rattle.text.proofs.Digits.{digits-small, number-was}
 use Rattle.text.proofs.NumberFaults.{number-local, number-begins}
