@@ -62,6 +62,12 @@ fn accepted(rng: &mut Rng, bounds: &Bounds) -> (Request, Vec<u32>) {
             ratios: [ratio(rng), ratio(rng)],
         };
         let scale = rng.pick(&[0, 1, 3, 10, 50, 1_000, 50_000, 1_000_000]);
+        // Every other time few last costs, so that many labels tie in theirs.
+        let last_scale = if rng.one_in(2) {
+            scale
+        } else {
+            rng.pick(&[0, 1, 3])
+        };
         let mut arcs = Vec::new();
         // Most arcs leave from a node that an earlier arc or the source gives,
         // so that walks grow long; each leads to another node, so one node
@@ -78,11 +84,12 @@ fn accepted(rng: &mut Rng, bounds: &Bounds) -> (Request, Vec<u32>) {
             let head = (tail + rng.between(1, nodes - 1)) % nodes;
             reached.push(head);
             arcs.extend([tail, head]);
-            for _ in 0..criteria {
+            for k in 1..=criteria {
+                let most = if k < criteria { scale } else { last_scale };
                 arcs.push(if rng.one_in(8) {
                     0
                 } else {
-                    rng.between(0, scale)
+                    rng.between(0, most)
                 });
             }
         }
