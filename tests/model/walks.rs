@@ -7,7 +7,7 @@ use std::collections::BTreeMap;
 use super::back::{read_back, ReadBack};
 use super::fences::{position, Ratio};
 use super::request::{arc, shape, Request, Shape};
-use super::rounds::{build, ranked, EMPTY};
+use super::rounds::{build, EMPTY};
 
 /// A walk from the source: "Walks may repeat nodes and arcs. The empty walk
 /// from the source to itself counts."
@@ -112,12 +112,6 @@ fn covers(request: &Request, label: &[u32], walk: &Walk) -> bool {
     u64::from(label[last]) <= walk.costs[last] && others
 }
 
-/// A label's costs, to compare with a walk's.
-fn costs_of(request: &Request, label: &[u32]) -> Vec<u64> {
-    let d = request.criteria as usize;
-    label[..d].iter().map(|&cost| u64::from(cost)).collect()
-}
-
 /// "with p at least 1, each is at most 1 + (bits of the ladder's top) × (q/p
 /// rounded up)"
 pub fn bucket_bound(ratio: Ratio, top: u64) -> u64 {
@@ -133,9 +127,7 @@ pub fn table(request: &Request, arcs: &[u32], shape: &Shape) -> (Vec<u32>, u64) 
     (labels, tries)
 }
 
-/// Demand 3 on one accepted request, by all its walks, and request c: the
-/// label that covers a walk does not give way to it, and the best walk of at
-/// most i arcs to a camp is in layer i with exactly its costs.
+/// Demand 3 on one accepted request, by all its walks.
 pub fn demand_three(request: &Request, arcs: &[u32]) -> Seen {
     let shape = shape(request, arcs).expect("an accepted request");
     let (labels, tries) = table(request, arcs, &shape);
@@ -145,27 +137,16 @@ pub fn demand_three(request: &Request, arcs: &[u32]) -> Seen {
         let by_node: Vec<_> = (0..request.nodes)
             .map(|v| filled(request, &shape, &labels, layer, v))
             .collect();
-        let mut best: BTreeMap<u32, &Walk> = BTreeMap::new();
         for walk in all.iter().filter(|walk| walk.arcs.len() <= layer as usize) {
-            let covered = by_node[walk.node as usize].iter().any(|(_, label)| {
-                let own = costs_of(request, label);
-                covers(request, label, walk) && ranked(&own) <= ranked(&walk.costs)
-            });
+            let at_camp = &by_node[walk.node as usize];
+            let covered = at_camp
+                .iter()
+                .any(|(_, label)| covers(request, label, walk));
             assert!(
                 covered,
                 "layer {layer} does not cover {walk:?} of {}",
                 told()
             );
-            let held = best.entry(walk.node).or_insert(walk);
-            if ranked(&walk.costs) < ranked(&held.costs) {
-                *held = walk;
-            }
-        }
-        for (node, walk) in best {
-            let exact = by_node[node as usize]
-                .iter()
-                .any(|(_, label)| costs_of(request, label) == walk.costs);
-            assert!(exact, "layer {layer} does not hold {walk:?} of {}", told());
         }
     }
     let seen = every_label_reads_back(request, arcs, &shape, &labels);

@@ -6,19 +6,17 @@ use mathlib.Core.List.{List}
 use native.Mathlib.Nat.{le_trans, le_of_eq, mul_assoc, mul_comm, mul_right_comm, mul-add, add-mul, zero-mul, mul-le-mul_left, mul-le-mul_right, add-le-add, pow-suc, pow-le-pow_left, le_of_mul-le-mul_right, le-add_left}
 use lib.ListN.{length}
 use lib.Dec.{T}
-use Rattle.words.specs.Pieces.{at}
-use Rattle.request.specs.Request.{Req, width, lower, ratio_p, ratio_q, reach}
+use Rattle.request.specs.Request.{Req, lower, ratio_p, ratio_q, reach}
 use Rattle.request.specs.Shape.{cells}
 use Rattle.request.specs.Accepted.{Regular}
 use Rattle.request.proofs.Cells.{position-near}
-use Rattle.request.proofs.Ties.{stays-unbeaten}
-use Rattle.rounds.specs.Label.{costs, filled}
-use Rattle.rounds.specs.Rounds.{block, layer, label_of, label_at}
-use Rattle.rounds.proofs.Ties.{Fair, LastLow, Stays, lower-fair, lower-stays}
+use Rattle.rounds.specs.Label.{filled}
+use Rattle.rounds.specs.Rounds.{label_of, label_at}
+use Rattle.rounds.proofs.Ties.{Fair, LastLow, lower-fair}
 use Rattle.cover.specs.Walk.{Walk, sums}
-use Rattle.cover.specs.Cover.{Holds, HoldsAgainst, ReadsBack}
+use Rattle.cover.specs.Cover.{Holds, ReadsBack}
 use Rattle.cover.proofs.Sound.{sound}
-use Rattle.cover.proofs.Carry.{Carries, Stands}
+use Rattle.cover.proofs.Carry.{Carries}
 use Rattle.cover.proofs.Standing.{every-walk}
 
 -- One arc more, in numbers: y is at the position of l + c, so y × q ≤ (l + c) × s with s = p + q (the fence fact); and l is within the power so
@@ -48,31 +46,17 @@ module _ (R : Req) (ok : Regular R) where
         (position-near R ok j y (c + d) l e) n (pow-le-pow_left (le-add_left (ratio_q R j) (ratio_p R j)) h));
   }
 
-  -- what stands near costs covers them, where its last cost is no greater
-  covering : (Low : List ℕ → List ℕ → Type 0) (i v h : ℕ) (xs : List ℕ) (s : Stands R Low (Near R) (block R (layer R i) v) h xs)
-      → LastLow R.criteria xs (costs R (at (width R) (block R (layer R i) v) s.where_to)) → Holds R i v h xs
-  unfolding label_at label_of
-  covering Low i v h xs s low = record { cell = s.where_to; inside = s.inside; full = s.full; covers = record { last_cost = low; other_costs = s.near } }
-
   -- THE COVER
   pub cover : Fair R.rule (LastLow R.criteria) → (ws : List ℕ) (v i : ℕ) → Walk R R.source ws v → length ws ≤ i → i ≤ reach R → Holds R i v (length ws) (sums R ws)
+  unfolding label_at label_of
   cover fair ws v i walk l k =
       let s = every-walk R ok (LastLow R.criteria) fair (Near R) near-carries ws v i walk l k in
-      covering (LastLow R.criteria) i v (length ws) (sums R ws) s s.low
-
-  -- AND BY THE TIE RULE no walk beats the label that covers it
-  pub cover-against : R.rule ≡ lower R.criteria → (ws : List ℕ) (v i : ℕ) → Walk R R.source ws v → length ws ≤ i → i ≤ reach R → HoldsAgainst R i v (length ws) (sums R ws)
-  unfolding label_at label_of covering
-  cover-against e ws v i walk l k =
-      let Low : List ℕ → List ℕ → Type 0 = Stays (lower R.criteria) in
-      let s = every-walk R ok Low (subst (λ (f : List ℕ → List ℕ → Bool). Fair f Low) (sym e) (lower-stays R.criteria)) (Near R) near-carries ws v i walk l k in
-      let u = stays-unbeaten R.criteria (sums R ws) (costs R (at (width R) (block R (layer R i) v) s.where_to)) s.low in
-      record { held = covering Low i v (length ws) (sums R ws) s u.last_cost; unbeaten = u }
+      record { cell = s.where_to; inside = s.inside; full = s.full; covers = record { last_cost = s.low; other_costs = s.near } }
 
   -- EVERY LABEL READS BACK
   pub reads-back : (i v c : ℕ) → v < R.nodes → c < cells R → T (filled R (label_at R i v c)) → ReadsBack R i v c
   reads-back i v c hv hc t = let r = sound R ok i v c hv hc t in record { walk = r.walk; short = r.short; exact = r.exact }
 
--- the tie rule is fair to the last cost
+-- document 01's tie rule is fair to the last cost
 pub rule-fair : (R : Req) → R.rule ≡ lower R.criteria → Fair R.rule (LastLow R.criteria)
 rule-fair R e = subst (λ (f : List ℕ → List ℕ → Bool). Fair f (LastLow R.criteria)) (sym e) (lower-fair R.criteria)

@@ -1,7 +1,6 @@
 -- Demand 3: what it is to cover a walk, and the route that a label's chain names. Assumes nothing.
 use Rattle.std.specs.Prelude.{ℕ, zero, suc, ◌+◌, ◌-◌, ◌*◌, ◌^◌, ◌≤◌, ◌<◌, ◌≡◌, cond, List, [], ◌∷◌, ◌++◌, length, get_or, T, leb}
 use Rattle.request.specs.Request.{Req, last, tail, ratio_p, ratio_q}
-use Rattle.request.specs.Ties.{Unbeaten}
 use Rattle.request.specs.Shape.{cells}
 use Rattle.rounds.specs.Label.{costs, step, from, filled}
 use Rattle.rounds.specs.Rounds.{label_at}
@@ -19,11 +18,6 @@ pub record Holds (R : Req) (i v h : ℕ) (xs : List ℕ) : Type 0 where
   pub inside : cell < cells R
   pub full : T (filled R (label_at R i v cell))
   pub covers : Covers R h xs (costs R (label_at R i v cell))
-
--- Document 02, request (c): and that label holds against them by its tie rule
-pub record HoldsAgainst (R : Req) (i v h : ℕ) (xs : List ℕ) : Type 0 where
-  pub held : Holds R i v h xs
-  pub unbeaten : Unbeaten R.criteria xs (costs R (label_at R i v held.cell))
 
 -- the arcs that the chain of the label of layer i, node v, cell c names, in travel order
 unfoldable pub route : Req → ℕ → ℕ → ℕ → List ℕ

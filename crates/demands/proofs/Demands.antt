@@ -46,11 +46,6 @@ buckets-bound : (R : Req) → Regular R → (j : ℕ) → j < R.graded → 0 < r
 unfolding buckets
 buckets-bound R ok j l p = buckets-le (ratio_p R j) (ratio_q R j) (ok.ratio_in j l) p (top R j)
 
--- a walk ends at a node
-pub end-at : (R : Req) → Regular R → (u : ℕ) (ws : List ℕ) (v : ℕ) → u < R.nodes → Walk R u ws v → v < R.nodes
-end-at R ok u [] v h w = subst (λ (z : ℕ). z < R.nodes) w h
-end-at R ok u (a ∷ ws) v h w = end-at R ok (head R a) ws v (ok.head_in a w.0) w.2
-
 -- ---- what an answer of the build tells
 
 -- it answered tries: no row held
@@ -131,7 +126,7 @@ module _ (q : Request) (arcs buffer labels : List ℕ) (t : ℕ) (e : built_of (
   accepts : Accepted R
   accepts = clear-accepted R (length buffer) (length labels) none-held
 
-  pub ok : Regular R
+  ok : Regular R
   ok = accepted-regular R accepts
 
   -- the table stands in front
@@ -141,22 +136,27 @@ module _ (q : Request) (arcs buffer labels : List ℕ) (t : ℕ) (e : built_of (
       subst (Fronts R) (built-all R buffer labels none-held).2 (build-fronts R labels (omega (arith, room, table-words R ok)))
 
   -- the label at its place in the buffer is the rounds' own
-  pub label_is : (i v c : ℕ) → i ≤ q.hops → v < q.nodes → c < cells R → label_in R W i v c ≡ label_at R i v c
+  label_is : (i v c : ℕ) → i ≤ q.hops → v < q.nodes → c < cells R → label_in R W i v c ≡ label_at R i v c
   label_is i v c hi hv hc =
       let room = (clear-rooms R (length buffer) (length labels) none-held).1 in
       let words = table-words R ok in
       let after = (built-all R buffer labels none-held).2 in
       ap (λ (X : List ℕ). label_in R X i v c) (sym after) ∙ front-label R ok i v c hi hv hc labels (omega arith)
 
-  pub full_is : (i v c : ℕ) → i ≤ q.hops → v < q.nodes → c < cells R → T (filled R (label_in R W i v c)) → T (filled R (label_at R i v c))
+  full_is : (i v c : ℕ) → i ≤ q.hops → v < q.nodes → c < cells R → T (filled R (label_in R W i v c)) → T (filled R (label_at R i v c))
   full_is i v c hi hv hc = subst (λ (l : List ℕ). T (filled R l)) (label_is i v c hi hv hc)
+
+  -- a walk ends at a node
+  end-in : (u : ℕ) (ws : List ℕ) (v : ℕ) → u < q.nodes → Walk R u ws v → v < q.nodes
+  end-in u [] v h w = subst (λ (z : ℕ). z < q.nodes) w h
+  end-in u (a ∷ ws) v h w = end-in (head R a) ws v (ok.head_in a w.0) w.2
 
   pub demand3 : Demand3 q arcs buffer labels t
   unfolding reach Within cells volume
   demand3 = record {
     cover = λ ws v i walk l k.
         let h = cover R ok (rule-fair R refl) ws v i walk l k in
-        let s = sym (label_is i v h.cell k (end-at R ok q.source ws v ok.source_in walk) h.inside) in
+        let s = sym (label_is i v h.cell k (end-in q.source ws v ok.source_in walk) h.inside) in
         record {
           cell = h.cell;
           inside = h.inside;

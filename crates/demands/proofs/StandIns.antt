@@ -9,7 +9,7 @@ use Rattle.words.specs.Loops.{up_to, total}
 use Rattle.words.specs.Pieces.{write, at, put, join}
 use Rattle.words.specs.Radix.{volume, radix}
 use Rattle.fences.specs.Fence as fence
-use Rattle.request.specs.Request.{ahead, lower, ratio_p, ratio_q, arc_count, arc, tail, head, arc_costs, reach}
+use Rattle.request.specs.Request.{lower, ratio_p, ratio_q, arc_count, arc, tail, head, arc_costs, reach}
 use Rattle.request.specs.Shape.{largest_of, largest, top, buckets, position, cells, cell}
 use Rattle.rounds.specs.Label.{costs, step, from, filled, empty, start, kept, sum, candidate, came, wins}
 use Rattle.rounds.specs.Rounds.{block, blank, start_block, start_layer, keep_cell, keep_block, keep_all, offer, try_cell, try_arc, arc_step, round, layer, label_of, table, filled_in}
@@ -27,7 +27,7 @@ pub stand-ins :
     (keep_all (sheet 2 1 1) (layer (sheet 2 1 1) 1) ≡ layer (sheet 2 1 1) 2 → ⊥)
     × Walk (sheet 2 1 1) 0 (0 ∷ 3 ∷ []) 3 × (filled_in (sheet 2 1 1) (block (sheet 2 1 1) (keep_all (sheet 2 1 1) (layer (sheet 2 1 1) 1)) 3) ≡ 0)
     × (table (sheet 2 1 1) ≡ table (sheet 0 1 1) → ⊥)
-unfolding filled_in total up_to write at put join volume radix fence.fence fence.fences fence.passed fence.position fence.buckets ahead lower ratio_p ratio_q arc_count arc tail head arc_costs reach largest_of largest top buckets position cells cell costs step from filled empty start kept sum candidate came wins block blank start_block start_layer keep_cell keep_block keep_all offer try_cell try_arc arc_step round layer label_of table sheet
+unfolding filled_in total up_to write at put join volume radix fence.fence fence.fences fence.passed fence.position fence.buckets lower ratio_p ratio_q arc_count arc tail head arc_costs reach largest_of largest top buckets position cells cell costs step from filled empty start kept sum candidate came wins block blank start_block start_layer keep_cell keep_block keep_all offer try_cell try_arc arc_step round layer label_of table sheet
 stand-ins = (only_keeping, (lit< tt, refl, (lit< tt, refl, refl)), refl, one_table)
   where
     only_keeping : keep_all (sheet 2 1 1) (layer (sheet 2 1 1) 1) ≡ layer (sheet 2 1 1) 2 → ⊥

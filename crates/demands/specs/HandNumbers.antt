@@ -55,5 +55,5 @@ pub record HandNumbers : Type 0 where
       × (tries (sheet 0 1 1) 0 ≡ 0)
   -- 9, by request (f): "Case 9 becomes a refusal", of its one arc
   pub nine : weigh (rows loop) ≡ refused 17 0
-  -- 10, by request (c): "Case 10 then ends with (4, 5)"
-  pub ten : held equal 1 1 ≡ (2 ∷ 4 ∷ 5 ∷ []) ∷ []
+  -- 10. "(5, 5) stays."
+  pub ten : held equal 1 1 ≡ (2 ∷ 5 ∷ 5 ∷ []) ∷ []

@@ -1,4 +1,2 @@
 pub mod HandNumbers
 pub mod Demands
-pub mod Ties
-pub mod Drivers

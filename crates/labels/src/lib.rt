@@ -1,6 +1,5 @@
 // What a try does to one label's words: make a candidate, find its cell, place it.
 ghost use Rattle.std.specs.Prelude.{◌≡◌, cond, ◌+◌, ◌≤◌, length, take, drop};
-ghost use Rattle.request.specs.Request.{ahead};
 ghost use Rattle.rounds.specs.Label.{label, sum};
 ghost use Rattle.labels.specs.Words.{wins_over, Adds, Seeks, FoundAt, SameFrom};
 
@@ -21,23 +20,7 @@ pub fn add_costs(out: &mut [u32], lab: &[u32], arc: &[u32], d: usize, step: u32,
     out[d + 1] = from;
 }
 
-// Whether a candidate is ahead of a cell in the first n costs: the first that differs is lower.
-fn ahead(cand: &[u32], cell: &[u32], n: usize) -> bool
-    requires { (n ≤ length cand.now) × (n ≤ length cell.now) }
-    ensures { result ≡ ahead n 0 cand.now cell.now }
-{
-    let mut j = 0;
-    while j < n {
-        if cand[j] != cell[j] {
-            return cand[j] < cell[j];
-        }
-        j += 1;
-    }
-    false
-}
-
-// Whether a candidate takes a cell's place: the cell is empty, or holds a larger last cost, or an equal one and the candidate is ahead in
-// the others.
+// Whether a candidate takes a cell's place: the cell is empty, or holds a strictly larger last cost.
 fn wins(cand: &[u32], cell: &[u32], d: usize) -> bool
     requires { (length cand.now ≡ d + 2) × (length cell.now ≡ d + 2) × (1 ≤ d) }
     ensures { result ≡ wins_over d cand.now cell.now }
@@ -45,11 +28,7 @@ fn wins(cand: &[u32], cell: &[u32], d: usize) -> bool
     if cell[d] == 0 {
         return true;
     }
-    let last = d - 1;
-    if cand[last] != cell[last] {
-        return cand[last] < cell[last];
-    }
-    ahead(cand, cell, last)
+    cand[d - 1] < cell[d - 1]
 }
 
 // A candidate is offered to a cell.

@@ -8,5 +8,4 @@ pub mod Says
 pub mod Refusals
 pub mod Demands
 pub mod Loopless
-pub mod Ties
 pub mod StandIns

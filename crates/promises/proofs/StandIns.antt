@@ -11,7 +11,7 @@ use Rattle.words.specs.Pieces.{part, write, at, put, join}
 use Rattle.words.specs.Radix.{volume, radix}
 use Rattle.words.specs.Rows.{weigh, each}
 use Rattle.fences.specs.Fence as fence
-use Rattle.request.specs.Request.{Req, asked, ahead, lower, ratio_p, ratio_q, arc_count, arc, tail, head, arc_costs, reach}
+use Rattle.request.specs.Request.{Req, asked, lower, ratio_p, ratio_q, arc_count, arc, tail, head, arc_costs, reach}
 use Rattle.request.specs.Shape.{largest_of, largest, top, buckets, ladder, ladders, position, cells, cell, label_count}
 use Rattle.request.specs.Rows.{outside, size_rows, ratio_row, arc_words_row, arc_fault, arc_row, bucket_row, label_row, ask_rows, arc_rows, shape_rows, rows}
 use Rattle.rounds.specs.Label.{costs, step, from, filled, empty, start, kept, sum, candidate, came, wins}
@@ -53,7 +53,7 @@ computed :
     × (get_or (labels_after (asked (example 0) tracks) 5 (replicate 192 0)) 190 0 ≡ 0)
     × (get_or (keep_all (asked (example 2) tracks) (part (labels_after (asked (example 2) tracks) 5 (replicate 192 0)) 64 64)) 62 0 ≡ 0)
     × (get_or (part (labels_after (asked (example 2) tracks) 5 (replicate 192 0)) 128 64) 62 0 ≡ 6)
-unfolding up_to total any write at put join volume radix weigh each fence.fence fence.fences fence.passed fence.position fence.buckets fence.ladder ahead lower ratio_p ratio_q arc_count arc tail head arc_costs reach largest_of largest top buckets ladder ladders position cells cell label_count outside size_rows ratio_row arc_words_row arc_fault arc_row bucket_row label_row ask_rows arc_rows shape_rows rows costs step from filled empty start kept sum candidate came wins block blank start_block start_layer keep_cell keep_block keep_all offer try_cell try_arc arc_step round layer table filled_in round_tries tries build_rows built_of ladders_after labels_after example tracks
+unfolding up_to total any write at put join volume radix weigh each fence.fence fence.fences fence.passed fence.position fence.buckets fence.ladder lower ratio_p ratio_q arc_count arc tail head arc_costs reach largest_of largest top buckets ladder ladders position cells cell label_count outside size_rows ratio_row arc_words_row arc_fault arc_row bucket_row label_row ask_rows arc_rows shape_rows rows costs step from filled empty start kept sum candidate came wins block blank start_block start_layer keep_cell keep_block keep_all offer try_cell try_arc arc_step round layer table filled_in round_tries tries build_rows built_of ladders_after labels_after example tracks
 computed = (refl, refl, refl, refl, refl, refl)
 
 -- ---- there are such calls, so this says something

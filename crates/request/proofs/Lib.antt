@@ -7,5 +7,4 @@ pub mod Stages
 pub mod Counts
 pub mod Cells
 pub mod Ladders
-pub mod Ties
 pub mod Answers

@@ -1,5 +1,4 @@
 pub mod Request
-pub mod Ties
 pub mod Shape
 pub mod Rows
 pub mod Answer

@@ -1,5 +1,5 @@
 -- A request in definitions: document 01's "Sizes" in numbers and lists, for any number of criteria. Assumes nothing.
-use Rattle.std.specs.Prelude.{ℕ, zero, suc, ◌+◌, ◌-◌, ◌*◌, ◌/◌, Bool, false, ◌||◌, ◌&&◌, List, length, get_or, drop, ltb, eqb}
+use Rattle.std.specs.Prelude.{ℕ, ◌+◌, ◌-◌, ◌*◌, ◌/◌, Bool, List, length, get_or, drop, ltb}
 use Rattle.words.specs.Pieces.{at}
 use Rattle.request.specs.declared.Request.{Request}
 
@@ -18,19 +18,9 @@ pub record Req : Type 0 where
 abbrev pub last : ℕ → List ℕ → ℕ
 last d xs = get_or xs (d - 1) 0
 
--- cost x against cost y: it "is lower, or that is equal and" the rest decides
-abbrev pub beats : ℕ → ℕ → Bool → Bool
-beats x y rest = ltb x y || (eqb x y && rest)
-
--- of n costs from criterion j on, counted from 0: "its first cost is lower, or that is equal and its second cost is lower", and so on
-unfoldable pub ahead : ℕ → ℕ → List ℕ → List ℕ → Bool
-ahead zero j new old = false
-ahead (suc n) j new old = let rest = ahead n (suc j) new old in beats (get_or new j 0) (get_or old j 0) rest
-
--- THE TIE RULE for d criteria: a cell's costs `old` give way to a lower last cost, and "at an equal last cost" to costs that are ahead in the others.
--- "All costs equal: the earlier stays"
+-- THE TIE RULE for d criteria: a cell's costs `old` give way where they hold "a strictly larger last cost"
 unfoldable pub lower : ℕ → List ℕ → List ℕ → Bool
-lower d new old = let tie = ahead (d - 1) 0 new old in beats (last d new) (last d old) tie
+lower d new old = ltb (last d new) (last d old)
 
 -- what the build, the read-back and the lister are asked: "a ratio for each criterion but the last"
 abbrev pub asked : Request → List ℕ → Req

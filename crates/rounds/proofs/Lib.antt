@@ -8,4 +8,3 @@ pub mod Tries
 pub mod Table
 pub mod Quiet
 pub mod Passing
-pub mod Bettered

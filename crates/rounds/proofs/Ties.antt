@@ -1,16 +1,14 @@
 -- What the cover asks of a tie rule: an order `Low old new` on costs, which sums keep, so that a winner is low to what it replaces, and what keeps
--- its place is low to the loser. And the rule of request (c). Assumes nothing.
+-- its place is low to the loser. And document 01's rule. Assumes nothing.
 use Prim.Native.Nat.{ℕ, ◌-◌, ◌≤◌}
-use mathlib.Core.Path.{sym, subst}
 use mathlib.Core.Bool.{Bool, true, false, not, ◌||◌}
 use mathlib.Core.List.{List}
-use native.Mathlib.Nat.{le_refl, le_trans}
+use native.Mathlib.Nat.{le_refl, le_trans, le_of_lt}
 use native.Mathlib.Omega.{arith}
-use lib.ListN.{get_or}
-use lib.Dec.{T}
+use lib.Dec.{T, ltb, ltb→lt, nltb→le}
+use borrow.Author.Tests.{le-ltb}
 use Rattle.words.proofs.Choices.{false-is, or-implies}
 use Rattle.request.specs.Request.{Req, last, lower}
-use Rattle.request.proofs.Ties.{lower-same, lower-chain, lower-turn, lower-add, stays-unbeaten}
 use Rattle.rounds.specs.Label.{costs, filled, sum, wins}
 use Rattle.rounds.proofs.Labels.{get_d-sum}
 
@@ -25,28 +23,36 @@ pub record Fair (rule : List ℕ → List ℕ → Bool) (Low : List ℕ → List
 abbrev pub LastLow : ℕ → List ℕ → List ℕ → Type 0
 LastLow d xs ys = last d ys ≤ last d xs
 
--- THE TIE RULE'S OWN ORDER: costs `new` do not replace costs `old`
-abbrev pub Stays : (List ℕ → List ℕ → Bool) → List ℕ → List ℕ → Type 0
-Stays rule new old = T (not (rule new old))
-
-pub lower-stays : (d : ℕ) → Fair (lower d) (Stays (lower d))
-lower-stays d = record {
-  same = λ xs. false-is (lower-same d xs);
-  chain = lower-chain d;
-  add = λ xs ys cs. subst (λ (b : Bool). T (not b)) (sym (lower-add xs ys (sum xs cs) (sum ys cs) (λ k. get_or cs k 0) (get_d-sum xs cs) (get_d-sum ys cs) d));
-  win = lower-turn d;
-  stay = λ new old t. t;
-}
-
--- and what stays in it has no greater last cost
 pub lower-fair : (d : ℕ) → Fair (lower d) (LastLow d)
+unfolding lower
 lower-fair d = record {
   same = λ xs. le_refl (last d xs);
   chain = λ xs ys zs h k. le_trans k h;
   add = λ xs ys cs h. omega (arith, get_d-sum xs cs (d - 1), get_d-sum ys cs (d - 1));
-  win = λ new old t. (stays-unbeaten d old new (lower-turn d new old t)).last_cost;
-  stay = λ new old t. (stays-unbeaten d new old t).last_cost;
+  win = λ new old t. le_of_lt (ltb→lt (last d new) (last d old) t);
+  stay = λ new old t. nltb→le (last d new) (last d old) t;
 }
+
+-- THE TIE RULE'S OWN ORDER: costs `new` do not replace costs `old`
+abbrev pub Stays : (List ℕ → List ℕ → Bool) → List ℕ → List ℕ → Type 0
+Stays rule new old = T (not (rule new old))
+
+-- by document 01's rule that is "no greater last cost"
+pub lower-stays : (d : ℕ) → Fair (lower d) (Stays (lower d))
+unfolding lower
+lower-stays d = record {
+  same = λ xs. to xs xs (le_refl (last d xs));
+  chain = λ xs ys zs h k. to xs zs (le_trans (back ys zs k) (back xs ys h));
+  add = λ xs ys cs h. to (sum xs cs) (sum ys cs) ((lower-fair d).add xs ys cs (back xs ys h));
+  win = λ new old t. to old new (le_of_lt (ltb→lt (last d new) (last d old) t));
+  stay = λ new old t. t;
+}
+  where
+    to : (xs ys : List ℕ) → last d ys ≤ last d xs → T (not (ltb (last d xs) (last d ys)))
+    to xs ys h = false-is (le-ltb (last d xs) (last d ys) h)
+
+    back : (xs ys : List ℕ) → T (not (ltb (last d xs) (last d ys))) → last d ys ≤ last d xs
+    back xs ys t = nltb→le (last d xs) (last d ys) t
 
 lost : (x y : Bool) → T (not (not x || y)) → T x × T (not y)
 lost true y t = (tt, t)
