@@ -1,4 +1,6 @@
 // The planner for C: slices, a request of eight words, and one 64-bit number for each answer.
+#![tactic(auto)]
+
 ghost use Rattle.std.specs.Prelude.{◌≡◌, ◌<◌, length};
 ghost use Rattle.request.specs.Request.{asked};
 ghost use Rattle.sheet.specs.Answer.{refusal_said};

@@ -1,4 +1,6 @@
 // The fences of a ratio p over q: the next fence, a ladder top's bucket count, a ladder's words, a cost's position.
+#![tactic(auto)]
+
 ghost use Rattle.std.specs.Prelude.{◌≡◌, ◌+◌, ◌≤◌, ◌<◌, length};
 ghost use Rattle.fences.specs.Fence.{next, fences, buckets};
 ghost use Rattle.fences.specs.Answer.{buckets_of, Bracket, Slot};

@@ -1,4 +1,6 @@
 // What a round keeps of the layer before: a label, a node's block, a layer; and what it notes of each node on the way.
+#![tactic(auto)]
+
 ghost use Rattle.std.specs.Prelude.{◌≡◌, ◌+◌, ◌*◌, ◌≤◌, ◌<◌, cond, length, get_or, replicate, ltb, eqb};
 ghost use Rattle.words.specs.Pieces.{part, at, write, join};
 ghost use Rattle.rounds.specs.Label.{label};

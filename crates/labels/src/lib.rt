@@ -1,4 +1,6 @@
 // What a try does to one label's words: make a candidate, find its cell, place it.
+#![tactic(auto)]
+
 ghost use Rattle.std.specs.Prelude.{◌≡◌, cond, ◌+◌, ◌≤◌, length, take, drop};
 ghost use Rattle.rounds.specs.Label.{label, sum};
 ghost use Rattle.labels.specs.Words.{wins_over, Adds, Seeks, FoundAt, SameFrom};

@@ -1,4 +1,6 @@
 // The lister: reads a sheet from standard input and prints its listing, or its first refusal.
+#![tactic(auto)]
+
 use libc::STDIN_FILENO;
 
 fn main() {

@@ -1,4 +1,6 @@
 // The listing of a built table: its length is known before its first byte is written. And the listing of a sheet.
+#![tactic(auto)]
+
 mod sheets;
 
 ghost use Rattle.std.specs.Prelude.{◌≡◌, ◌+◌, ◌*◌, ◌≤◌, ◌<◌, length};

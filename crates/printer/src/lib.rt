@@ -1,4 +1,6 @@
 // Prints, for a sheet, what the lister prints.
+#![tactic(auto)]
+
 ghost use Rattle.std.specs.Prelude.{◌≡◌, ◌≤◌, length};
 ghost use Rattle.printout.specs.Printout.{printout_of};
 

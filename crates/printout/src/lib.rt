@@ -1,4 +1,6 @@
 // What the lister prints for a sheet: its listing, or the line of its first refusal. 53,000 bytes are enough for every listing.
+#![tactic(auto)]
+
 ghost use Rattle.std.specs.Prelude.{◌≡◌, ◌≤◌, length};
 ghost use Rattle.words.specs.Pieces.{write};
 ghost use Rattle.listing.specs.Listing.{refusal_line};

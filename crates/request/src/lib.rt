@@ -1,4 +1,6 @@
 // What the planner is asked, and the first refusal of rows 2 to 10 with 17, or the shape of the table that it will draw up.
+#![tactic(auto)]
+
 mod weigh;
 
 ghost use Rattle.std.specs.Prelude.{◌≡◌, [], ◌∷◌, ◌+◌, ◌-◌, ◌*◌, ◌/◌, ◌≤◌, ◌<◌, max, length, get_or};

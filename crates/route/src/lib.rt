@@ -1,4 +1,6 @@
 // Reading a route back from a label buffer that is not trusted.
+#![tactic(auto)]
+
 mod holds;
 
 ghost use Rattle.std.specs.Prelude.{◌≡◌, ◌||◌, [], ◌∷◌, ◌≤◌, length, get_or, take, leb, ltb};

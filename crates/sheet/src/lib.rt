@@ -1,4 +1,6 @@
 // The track sheet: read from bytes, and written to bytes.
+#![tactic(auto)]
+
 mod reader;
 mod writer;
 

@@ -1,4 +1,6 @@
 // The label table: layer 0, the rounds, and the build that checks a request and draws its table up in the lent buffers.
+#![tactic(auto)]
+
 ghost use Rattle.std.specs.Prelude.{◌≡◌, ◌+◌, ◌-◌, ◌*◌, ◌≤◌, ◌<◌, length, eqb};
 ghost use Rattle.words.specs.Loops.{up_to};
 ghost use Rattle.words.specs.Pieces.{part, write, join};

@@ -1,5 +1,7 @@
 // Bytes, decimal numbers, fields and lines: what a sheet, a listing or another file of lines is made of.
 // A reader answers the first byte at fault, from 0: the first that no good text with the same beginning could have there.
+#![tactic(auto)]
+
 ghost use Rattle.std.specs.Prelude.{◌≡◌, ◌≤◌, ◌<◌, ◌+◌, ◌*◌, length, drop};
 ghost use Rattle.words.specs.Pieces.{write};
 ghost use Rattle.text.specs.Field.{before, common};

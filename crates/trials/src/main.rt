@@ -1,4 +1,6 @@
 // Prints, one after another, what the lister prints for each sheet of standard input. A sheet stands after a line of four digits, its length.
+#![tactic(auto)]
+
 ghost use Rattle.std.specs.Prelude.{◌<◌, ◌≤◌, length};
 
 use libc::STDIN_FILENO;

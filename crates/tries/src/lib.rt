@@ -1,4 +1,6 @@
 // The tries of one arc: each filled label of the tail's block, extended and offered to the head's block.
+#![tactic(auto)]
+
 ghost use Rattle.std.specs.Prelude.{◌≡◌, ℕ, ◌+◌, ◌-◌, ◌*◌, ◌≤◌, ◌<◌, length, get_or};
 ghost use Rattle.words.specs.Pieces.{part, write};
 ghost use Rattle.request.specs.Request.{asked, arc_count};
