@@ -6,7 +6,7 @@ ghost use Rattle.fences.specs.Fence.{next, fences, buckets};
 ghost use Rattle.fences.specs.Answer.{buckets_of, Bracket, Slot};
 
 // A ladder top's bucket count, or that it is over 4,096.
-#[derive(Drop)]
+#[derive(Clone, Copy)]
 pub enum Buckets {
     Count(u32),
     Over,

@@ -11,7 +11,7 @@ ghost use Rattle.keeping.specs.Kept.{keep_words, kept_block, Noted, KeptIn, Laye
 use words::clear;
 
 // What is noted of a block: how many of its labels are filled, and a range of cells outside which all are empty or kept.
-#[derive(Drop)]
+#[derive(Clone, Copy)]
 struct Note {
     filled: u64,
     low: usize,

@@ -17,21 +17,21 @@ pub use sheets::list;
 const TAB: u8 = 9;
 
 // A text was printed, of so many bytes; or it is longer than the lent bytes.
-#[derive(Drop)]
+#[derive(Clone, Copy)]
 pub enum Printed {
     Bytes(u32),
     Longer,
 }
 
 // A sheet's listing has so many bytes; or a refusal.
-#[derive(Drop)]
+#[derive(Clone, Copy)]
 pub enum Listed {
     Bytes(u32),
     Refused(Refusal),
 }
 
 // How many labels are filled, and how many bytes their lines take.
-#[derive(Drop)]
+#[derive(Clone, Copy)]
 struct Measure {
     filled: u32,
     bytes: usize,

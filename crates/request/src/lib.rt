@@ -18,7 +18,7 @@ use fences::Buckets;
 use weigh::{refuse, weigh_asked};
 
 // A refusal: document 01's number, and its place, 0 where none is named.
-#[derive(Drop)]
+#[derive(Clone, Copy)]
 pub struct Refusal {
     pub number: u32,
     pub place: u32,
@@ -26,7 +26,7 @@ pub struct Refusal {
 
 // A request: nodes N, criteria d, the source, hops K, and p and q for each criterion but the last, one pair after another.
 // A pair that is not in use is 0 over 1 when it is read, and is never looked at.
-#[derive(Drop)]
+#[derive(Clone, Copy)]
 pub struct Request {
     pub nodes: u32,
     pub criteria: u32,
@@ -36,7 +36,7 @@ pub struct Request {
 }
 
 // The shape of a table: the bucket counts of the first two criteria, 1 where one has no ratio; C; the number of labels.
-#[derive(Drop)]
+#[derive(Clone, Copy)]
 pub struct Shape {
     pub b1: u32,
     pub b2: u32,
@@ -45,14 +45,14 @@ pub struct Shape {
 }
 
 // The first refusal, or the shape of the table.
-#[derive(Drop)]
+#[derive(Clone, Copy)]
 pub enum Checked {
     Shaped(Shape),
     Refused(Refusal),
 }
 
 // What weighing some of the rows gives.
-#[derive(Drop)]
+#[derive(Clone, Copy)]
 enum Weighing {
     Clear,
     Refused(Refusal),
@@ -97,7 +97,7 @@ fn count_buckets(q: Request, arcs: &[u32], j: usize) -> Buckets
 }
 
 // What counting the buckets of all criteria gives: row 9, and the counts, 1 where a criterion has no ratio.
-#[derive(Drop)]
+#[derive(Clone, Copy)]
 struct Counted {
     outcome: Weighing,
     counts: [u32; 2],

@@ -18,7 +18,7 @@ use request::{Checked, Refusal, Request, Shape, check};
 use words::word;
 
 // How a read-back ends: a route with its arc count, an empty cell, a refusal.
-#[derive(Drop)]
+#[derive(Clone, Copy)]
 pub enum Ending {
     Route(u32),
     Empty,
@@ -26,14 +26,14 @@ pub enum Ending {
 }
 
 // A read-back: how it ends, and beside it the route's costs, 0 where there is none.
-#[derive(Drop)]
+#[derive(Clone, Copy)]
 pub struct Back {
     pub ending: Ending,
     pub costs: [u32; 3],
 }
 
 // How following a chain ends: its arc count, or the layer in which it breaks.
-#[derive(Drop)]
+#[derive(Clone, Copy)]
 pub enum Trail {
     Whole(u32),
     Broke(u32),
@@ -41,7 +41,7 @@ pub enum Trail {
 
 // Where a label leads: nowhere, since it fails; to the start, which it is; to the same cell of the layer before; by an arc
 // from a node's cell there.
-#[derive(Drop)]
+#[derive(Clone, Copy)]
 enum Link {
     Fails,
     Ends,

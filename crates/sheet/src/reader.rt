@@ -15,7 +15,7 @@ const TAB: u8 = 9;
 const LF: u8 = 10;
 
 // The numbers of an `ask` line; a ratio that is not there is 0 over 1.
-#[derive(Drop)]
+#[derive(Clone, Copy)]
 struct Asked {
     pub source: u32,
     pub hops: u32,
@@ -26,7 +26,7 @@ struct Asked {
 }
 
 // What a line after the first is.
-#[derive(Drop)]
+#[derive(Clone, Copy)]
 enum LineKind {
     Arc,
     Ask(Asked),
@@ -34,7 +34,7 @@ enum LineKind {
 }
 
 // All that a sheet says but its arcs' words.
-#[derive(Drop)]
+#[derive(Clone, Copy)]
 struct Form {
     pub nodes: u32,
     pub criteria: usize,
@@ -43,7 +43,7 @@ struct Form {
 }
 
 // A whole sheet, or its first bad line.
-#[derive(Drop)]
+#[derive(Clone, Copy)]
 enum Checked {
     Whole(Form),
     Broken(u32),

@@ -17,7 +17,7 @@ use tries::{Frame, try_arc};
 use words::clear;
 
 // How many tries the rounds made, or the first refusal.
-#[derive(Drop)]
+#[derive(Clone, Copy)]
 pub enum Built {
     Tries(u64),
     Refused(Refusal),

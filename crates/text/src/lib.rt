@@ -11,21 +11,21 @@ ghost use Rattle.text.specs.Line.{item, numbers, line_of, answer_of, taken_of, p
 const LF: u8 = 10;
 
 // What a field says as a number, or the byte at fault.
-#[derive(Drop)]
+#[derive(Clone, Copy)]
 pub enum Number {
     Value(u32),
     Fault(usize),
 }
 
 // A number of a line and the byte after it, or the byte at fault.
-#[derive(Drop)]
+#[derive(Clone, Copy)]
 pub enum Item {
     Found(u32, usize),
     Wrong(usize),
 }
 
 // A line whose numbers stand in the lent buffer, or the byte at fault.
-#[derive(Drop)]
+#[derive(Clone, Copy)]
 pub enum Line {
     Good,
     Bad(usize),

@@ -15,7 +15,7 @@ use request::Request;
 
 // The sizes that the loops go by, worked out once: the request, its criteria, the words of a label, the cells of a node,
 // the words of a node's block, the bucket counts.
-#[derive(Drop)]
+#[derive(Clone, Copy)]
 pub struct Frame {
     pub request: Request,
     pub d: usize,
