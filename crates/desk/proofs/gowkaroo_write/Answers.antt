@@ -1,0 +1,20 @@
+-- `gowkaroo_write`: the writer's answer, packed. Assumes nothing.
+use mathlib.Core.Path.{sym, ap, ◌∙◌}
+use lib.ListN.{length}
+use Rattle.sheet.specs.Writer.{writing_said}
+use Rattle.desk.specs.Packed.{packed}
+use Rattle.desk.proofs.Answers.{write-answer}
+use Rattle.desk.proofs.Calls.{refusal-small, count-packed}
+use borrow.Author.Rules.{rules}
+use Rattle.desk.proofs.gowkaroo_write.Goals as goal
+
+pub pack_refusal-requires : goal.pack_refusal-requires
+pack_refusal-requires c = let a = c.args in
+    refusal-small _ (write-answer _ a.arcs.now (length a.sheet.now)) _ (sym (ap writing_said c.writing-1.given.1) ∙ c.write-writing.ensures.result_value)
+
+pub returns-in-Refused : goal.returns-in-Refused
+returns-in-Refused c = let a = c.args in
+    let w = rw c.request_from-from.ensures at (c.write-writing.ensures.result_value, c.write-writing.ensures.sheet_after) in record { value = c.pack_refusal.ensures ∙ ap packed (sym (ap writing_said c.writing-1.given.1) ∙ w.0); sheet_after = w.1 }
+
+pub returns-in-Bytes : goal.returns-in-Bytes
+returns-in-Bytes c = let w = rw c.request_from-from.ensures at (c.write-writing.ensures.result_value, c.write-writing.ensures.sheet_after) in record { value = c.pack.ensures ∙ count-packed _ _ (sym (ap writing_said c.writing-in-Bytes-1.given.1) ∙ w.0); sheet_after = w.1 }

@@ -1,0 +1,67 @@
+-- `check`: the first line, and the lines after it. Assumes nothing.
+use Prim.Native.Nat.{ℕ, ◌+◌}
+use mathlib.Core.Path.{◌≡◌, refl, ap, sym, ◌∙◌}
+use mathlib.Core.List.{List, [], ◌∷◌}
+use native.Mathlib.Omega.{arith}
+use lib.ListN.{length, drop}
+use borrow.Author.Rules.{rules}
+use Rattle.text.specs.declared.Line.TheVariants.{Good, Bad}
+use Rattle.text.specs.Field.{before}
+use Rattle.text.specs.Line.{Got, good, taken_of}
+use Rattle.text.proofs.Written.{line_of-was}
+use Rattle.sheet.specs.Grammar.{tab, tracks_word, tracks_line, broken, after_first, sheet_of}
+use Rattle.sheet.specs.Inside.{form_of}
+use Rattle.sheet.proofs.LineKinds.{told-good, told-bad, filled}
+use Rattle.sheet.proofs.First.{sheet-loose, sheet-line, first_two, first_three, first-other}
+use Rattle.sheet.proofs.reader.check.Goals as goal
+
+-- the sheet by what was read of its first line
+module _ (c : goal.After-word_line) where
+  abbrev sheet : List ℕ
+  sheet = c.args.sheet.now
+
+  abbrev line : List ℕ
+  line = c.cut-line.result.now
+
+  -- the two numbers as they stand afterwards
+  abbrev two : List ℕ
+  two = c.word_line.new.out
+
+  first-is : sheet_of sheet ≡ after_first (tracks_line line) (drop (length line + 1) sheet)
+  first-is = sheet-line sheet line c.cut-line.ensures (omega arith)
+
+  first-bad : (j : ℕ) → c.word_line.result ≡ Bad j → sheet_of sheet ≡ broken 1
+  first-bad j e = first-is ∙ ap (λ (g : Got). after_first g (drop (length line + 1) sheet)) (told-bad tracks_word 2 2 line _ c.word_line.ensures.value refl j e)
+
+  two-are : c.word_line.result ≡ Good → tracks_line line ≡ good two
+  two-are e =
+      let g = told-good tracks_word 2 2 line _ c.word_line.ensures.value refl e in
+      g ∙ ap good (sym (filled tracks_word 2 line (taken_of (tracks_line line)) (0 ∷ 0 ∷ []) two refl g c.word_line.ensures.out_after))
+
+  first_good : c.word_line.result ≡ Good → sheet_of sheet ≡ after_first (good two) (drop (length line + 1) sheet)
+  first_good e = first-is ∙ ap (λ (g : Got). after_first g (drop (length line + 1) sheet)) (two-are e)
+
+  two-long : c.word_line.result ≡ Good → length two ≡ 2
+  two-long e = (line_of-was tab tracks_word 2 line two (two-are e)).1
+
+pub returns-then-sheet-e : goal.returns-then-sheet-e
+returns-then-sheet-e c = sym (ap form_of (sheet-loose _ _ c.cut-line.ensures c.if-sheet-e.true))
+
+-- LOST slice-aggregate-word-line-2
+slice-aggregate-word-line-2 : tie.Need-slice-aggregate-word-line-2
+slice-aggregate-word-line-2 c = search rules
+
+pub returns-then-v-eq2 : goal.returns-then-v-eq2
+returns-then-v-eq2 c = let e = c.enum_told-in-Good-1.given.1 in
+    c.check_lines.ensures ∙ sym (ap form_of (first_good (goal.at.returns-then-v-eq2 c).After-word_line e ∙ first_two (two (goal.at.returns-then-v-eq2 c).After-word_line) (drop (length (line (goal.at.returns-then-v-eq2 c).After-word_line) + 1) (sheet (goal.at.returns-then-v-eq2 c).After-word_line)) (two-long (goal.at.returns-then-v-eq2 c).After-word_line e) c.if-v-eq2.true))
+
+pub returns-then-v-eq3 : goal.returns-then-v-eq3
+returns-then-v-eq3 c = let e = c.enum_told-in-Good-1.given.1 in
+    c.check_lines-then-v-eq3.ensures ∙ sym (ap form_of (first_good (goal.at.returns-then-v-eq3 c).After-word_line e ∙ first_three (two (goal.at.returns-then-v-eq3 c).After-word_line) (drop (length (line (goal.at.returns-then-v-eq3 c).After-word_line) + 1) (sheet (goal.at.returns-then-v-eq3 c).After-word_line)) (two-long (goal.at.returns-then-v-eq3 c).After-word_line e) c.if-v-eq3.true))
+
+pub returns-in-Bad : goal.returns-in-Bad
+returns-in-Bad c = sym (ap form_of (first-bad (goal.at.returns-in-Bad c).After-word_line _ c.enum_told-1.given.1))
+
+pub returns-else-v-eq3 : goal.returns-else-v-eq3
+returns-else-v-eq3 c = let e = c.enum_told-in-Good-1.given.1 in
+    sym (ap form_of (first_good (goal.at.returns-else-v-eq3 c).After-word_line e ∙ first-other (two (goal.at.returns-else-v-eq3 c).After-word_line) (drop (length (line (goal.at.returns-else-v-eq3 c).After-word_line) + 1) (sheet (goal.at.returns-else-v-eq3 c).After-word_line)) c.if-v-eq2.false c.if-v-eq3.false))

@@ -1,0 +1,21 @@
+-- `kind_of`: an arc where there may be one more, else the ask, else neither. Assumes nothing.
+use Prim.Native.Nat.{◌<◌}
+use mathlib.Core.Path.{◌≡◌, sym, ◌∙◌}
+use mathlib.Core.Bool.{false}
+use mathlib.Core.Logic.{⊎_elim}
+use native.Mathlib.Omega.{arith}
+use borrow.Author.Rules.{rules}
+use Rattle.sheet.specs.Grammar.{arc_line}
+use Rattle.sheet.specs.Inside.{is_good}
+use Rattle.sheet.proofs.LineKinds.{kind-arc-told, kind-else-told}
+use Rattle.sheet.proofs.reader.kind_of.Goals as goal
+
+-- no arc, where there may be one more
+not-arc : (c : goal.Joined-m-lt512) → c.args.m < 512 → is_good (arc_line c.args.d c.args.line.now) ≡ false
+not-arc c h = ⊎_elim (λ w. sym w.1.ensures ∙ w.2.left) (λ w. absurd (omega (arith, w.left))) c.if-m-lt512.branch
+
+pub returns-then-is_arc : goal.returns-then-is_arc
+returns-then-is_arc c = kind-arc-told _ _ _ c.if-m-lt512.true (sym c.if-is_arc.true ∙ c.is_arc.ensures)
+
+pub returns : goal.returns
+returns c = c.ask_line.ensures ∙ kind-else-told _ _ _ (not-arc (goal.at.returns c).Joined-m-lt512)

@@ -1,0 +1,22 @@
+-- `store_arcs`: the words of the first i arcs are stored, in p words, and the lines from byte `at` on say the rest. Assumes nothing.
+use Prim.Native.Nat.{ℕ, ◌+◌, ◌-◌, ◌≤◌}
+use mathlib.Core.Path.{◌≡◌, ap, sym, ◌∙◌}
+use native.Mathlib.Omega.{arith}
+use lib.ListN.{length, take}
+use borrow.Author.Rules.{rules}
+use Rattle.words.specs.Pieces.{write}
+use Rattle.words.proofs.Writes.{length-write, write-none}
+use Rattle.text.specs.Field.{before}
+use Rattle.text.proofs.Fields.{rest-is}
+use Rattle.sheet.specs.Grammar.{lf, arc_word, sheet_of}
+use Rattle.sheet.specs.Rendering.{Sheetable}
+use Rattle.sheet.specs.Reader.{words_of}
+use Rattle.sheet.proofs.LineKinds.{filled}
+use Rattle.sheet.proofs.Stores.{asked_of, form-sheetable, Going, Starts, starts, Steps, steps, stored, mid-length, going_end}
+use Rattle.sheet.proofs.reader.store_arcs.Given as goal
+
+abbrev pub invariant-loop-i : goal.invariant-loop-i
+invariant-loop-i l = (l.i ≤ l.m) × (l.at ≤ length l.sheet) × (l.p ≤ length (words_of (sheet_of l.sheet))) × (l.arcs ≡ write l.initial.arcs 0 (take l.p (words_of (sheet_of l.sheet)))) × Going l.sheet l.m l.at l.p l.i
+
+abbrev pub decreases-loop-i : goal.decreases-loop-i
+decreases-loop-i l = l.m - l.i

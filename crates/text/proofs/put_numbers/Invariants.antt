@@ -1,0 +1,19 @@
+-- `put_numbers`: the first i numbers are written, each after sep. Assumes nothing.
+use Prim.Native.Nat.{ℕ, ◌≤◌, ◌-◌, ◌+◌}
+use mathlib.Core.Path.{◌≡◌, refl, ◌∙◌, ap}
+use mathlib.Core.List.{List}
+use native.Mathlib.Omega.{arith}
+use lib.ListN.{length, take, set, get_or, length-set}
+use lib.Seq.{take_all}
+use borrow.Author.Rules.{rules}
+use Rattle.words.specs.Pieces.{write}
+use Rattle.text.specs.Number.{digits}
+use Rattle.text.specs.Line.{parted}
+use Rattle.text.proofs.Puts.{parted-end, parted-room, parted-none, numbers-next}
+use Rattle.text.proofs.put_numbers.Given as goal
+
+abbrev pub invariant-loop-i : goal.invariant-loop-i
+invariant-loop-i l = (l.i ≤ length l.vs) × (length l.out ≡ length l.initial.out) × (l.a ≡ l.at + length (parted l.sep (take l.i l.vs))) × (l.out ≡ write l.initial.out l.at (parted l.sep (take l.i l.vs)))
+
+abbrev pub decreases-loop-i : goal.decreases-loop-i
+decreases-loop-i l = length l.vs - l.i

@@ -1,0 +1,104 @@
+-- `extend`: the scratch words hold the candidate, which is offered. Assumes nothing.
+use mathlib.Core.Path.{◌≡◌, sym, ap, ◌∙◌, subst}
+use Prim.Native.Nat.{ℕ, ◌+◌, ◌-◌, ◌*◌, ◌≤◌}
+use mathlib.Core.List.{List, [], ◌∷◌, ◌++◌}
+use lib.ListN.{length, get_or, take, drop, length-append}
+use lib.Seq.{length-take-le, take_at}
+use Rattle.words.specs.Pieces.{part, write}
+use Rattle.words.proofs.Writes.{length_part}
+use Rattle.labels.specs.Words.{Seeks, FoundAt}
+use Rattle.tries.specs.Frame.{offered, extended}
+use Rattle.tries.proofs.Offering.{made-law}
+use borrow.Author.Rules.{rules}
+use native.Mathlib.Omega.{arith}
+use Rattle.tries.proofs.extend.Goals as goal
+
+-- where the label's and the arc's words are, and how many
+module _ (s : goal.Start) where
+  -- a label fits into the scratch words
+  abbrev scratch : List ℕ
+  scratch = 0 ∷ 0 ∷ 0 ∷ 0 ∷ 0 ∷ []
+
+  front_long : length (take s.args.s.w scratch) ≡ s.args.s.w
+  front_long = length-take-le s.args.s.w scratch (omega (arith, s.requires.sized.words, s.requires.sized.few))
+
+-- the scratch words after `add_costs`
+module _ (c : goal.After-add_costs) where
+  scratch-long : length c.add_costs.new.out ≡ c.args.s.w
+  scratch-long = c.add_costs.auto.0 ∙ front_long c
+
+  scratch-front : take c.args.s.w (c.add_costs.new.out ++ drop c.args.s.w (scratch c)) ≡ c.add_costs.new.out
+  scratch-front = take_at c.add_costs.new.out _ c.args.s.w scratch-long
+
+  -- they hold the candidate
+  scratch-is : (let a = c.args in c.add_costs.new.out ≡ extended a.s.d (part a.labels.now a.at a.s.w) (part a.arcs.now (a.a * a.s.w) a.s.w) a.a a.c)
+  scratch-is = let a = c.args in made-law a.s.d a.s.w a.at a.a a.c a.labels.now a.arcs.now c.add_costs.new.out c.add_costs.ensures
+
+pub overflow_add-end : goal.overflow_add-end
+overflow_add-end c = omega (arith, (c.requires.sized, c.requires.extends))
+
+pub overflow_mul-arc_at : goal.overflow_mul-arc_at
+overflow_mul-arc_at c = omega (arith, (c.requires.sized, c.requires.extends))
+
+pub overflow_add-arc_end : goal.overflow_add-arc_end
+overflow_add-arc_end c = omega (arith, (c.requires.sized, c.requires.extends))
+
+pub slice_bounds-cand-end : goal.slice_bounds-cand-end
+slice_bounds-cand-end c = omega (arith, (c.requires.sized, c.requires.extends))
+
+pub slice_bounds-add_costs-end : goal.slice_bounds-add_costs-end
+slice_bounds-add_costs-end c = sym (front_long (goal.at.slice_bounds-add_costs-end c).Start)
+
+pub offset_bounds-labels-at : goal.offset_bounds-labels-at
+offset_bounds-labels-at c = omega (arith, (c.requires.sized, c.requires.extends))
+
+pub slice_bounds-add_costs-end-2 : goal.slice_bounds-add_costs-end-2
+slice_bounds-add_costs-end-2 c = omega (arith, (c.requires.sized, c.requires.extends))
+
+pub offset_bounds-arcs-arc_at : goal.offset_bounds-arcs-arc_at
+offset_bounds-arcs-arc_at c = omega (arith, (c.requires.sized, c.requires.extends))
+
+pub slice_bounds-add_costs-end-3 : goal.slice_bounds-add_costs-end-3
+slice_bounds-add_costs-end-3 c = omega (arith, (c.requires.sized, c.requires.extends))
+
+pub overflow_add-a : goal.overflow_add-a
+overflow_add-a c = omega (arith, (c.requires.sized, c.requires.extends))
+
+pub overflow_cast-a : goal.overflow_cast-a
+overflow_cast-a c = omega (arith, (c.requires.sized, c.requires.extends))
+
+pub overflow_cast-c : goal.overflow_cast-c
+overflow_cast-c c = omega (arith, (c.requires.sized, c.requires.extends))
+
+pub add_costs-requires : goal.add_costs-requires
+add_costs-requires c = let a = c.args in
+    let x = c.requires.extends in
+    let w = c.requires.sized.words in
+    let e1 : a.at + a.s.w - a.at ≡ a.s.w = omega arith in
+    let e2 : a.a * a.s.w + a.s.w - a.a * a.s.w ≡ a.s.w = omega arith in
+    record {
+      out_long = front_long (goal.at.add_costs-requires c).Start ∙ w;
+      lab_long = length_part a.labels.now a.at (a.at + a.s.w - a.at) (omega (arith, x.below, x.inside)) ∙ e1 ∙ w;
+      arc_long = length_part a.arcs.now (a.a * a.s.w) (a.a * a.s.w + a.s.w - a.a * a.s.w) (omega (arith, x.in_arcs)) ∙ e2 ∙ w;
+      small = λ k l. subst (λ (m : ℕ). get_or (part a.labels.now a.at m) k 0 + get_or (part a.arcs.now (a.a * a.s.w) (a.a * a.s.w + a.s.w - a.a * a.s.w)) (k + 2) 0 ≤ 63000000) (sym e1)
+          (subst (λ (m : ℕ). get_or (part a.labels.now a.at a.s.w) k 0 + get_or (part a.arcs.now (a.a * a.s.w) m) (k + 2) 0 ≤ 63000000) (sym e2) (x.sums k l));
+    }
+
+pub slice_bounds-cand-end-2 : goal.slice_bounds-cand-end-2
+slice_bounds-cand-end-2 c = let h = scratch-long (goal.at.slice_bounds-cand-end-2 c).After-add_costs in simp length-append (omega arith)
+
+pub slice_bounds-offer_found-end : goal.slice_bounds-offer_found-end
+slice_bounds-offer_found-end c = sym (ap length (scratch-front (goal.at.slice_bounds-offer_found-end c).After-add_costs) ∙ scratch-long (goal.at.slice_bounds-offer_found-end c).After-add_costs)
+
+pub offer_found-requires : goal.offer_found-requires
+offer_found-requires c = let a = c.args in
+    let x = c.requires.extends in
+    let sought = subst (λ (l : List ℕ). Seeks a.s.counts (a.s.d - 1) a.ladders.now l a.places.now) (sym (scratch-front (goal.at.offer_found-requires c).After-add_costs ∙ scratch-is (goal.at.offer_found-requires c).After-add_costs)) x.seeks in record { sized = c.requires.sized; seeks = sought; d_value = (x.volume_is, ap length (scratch-front (goal.at.offer_found-requires c).After-add_costs) ∙ scratch-long (goal.at.offer_found-requires c).After-add_costs, x.inside) }
+
+pub returns : goal.returns
+returns c = let a = c.args in
+    let e = scratch-front (goal.at.returns c).After-add_costs ∙ scratch-is (goal.at.returns c).After-add_costs in
+    let r = c.offer_found in (
+      r.ensures.0 ∙ ap (λ (l : List ℕ). write a.labels.now a.to (offered a.s.d (part a.labels.now a.to a.s.span) r.result l)) e,
+      subst (λ (l : List ℕ). FoundAt a.s.counts (a.s.d - 1) a.ladders.now l r.result r.new.places) e r.ensures.1,
+    )

@@ -1,0 +1,15 @@
+-- `clear`: the first i words are 0, the others as they were. Assumes nothing.
+use Prim.Native.Nat.{ℕ, ◌-◌, ◌≤◌, zero-le}
+use native.Mathlib.Omega.{arith}
+use borrow.Author.Fill.{fill_more}
+use mathlib.Core.Path.{◌≡◌, refl, ap, ◌∙◌}
+use mathlib.Core.List.{List, ◌++◌, append-nil}
+use lib.ListN.{length, set, drop, replicate, length-set}
+use lib.Seq.{drop-length}
+use Rattle.words.proofs.clear.Given as goal
+
+abbrev pub invariant-loop-i : goal.invariant-loop-i
+invariant-loop-i l = (l.i ≤ length l.initial.part) × (l.part ≡ replicate l.i 0 ++ drop l.i l.initial.part) × (length l.part ≡ length l.initial.part)
+
+abbrev pub decreases-loop-i : goal.decreases-loop-i
+decreases-loop-i l = length l.part - l.i
