@@ -26,7 +26,7 @@ loop-i-smaller c = simp length-set (omega arith)
 pub loop-i-preserved : goal.loop-i-preserved
 loop-i-preserved c =     let i = c.loop-i.i in (
       omega arith,
-      ap (λ ((goal.at.loop-i-preserved c).In-loop-i : List ℕ). set (goal.at.loop-i-preserved c).In-loop-i i 0) c.loop-i.invariant.1 ∙ fill_more i 0 c.args.part.now (omega arith),
+      ap (λ (z : List ℕ). set z i 0) c.loop-i.invariant.1 ∙ fill_more i 0 c.args.part.now (omega arith),
       length-set c.loop-i.part i 0 ∙ c.loop-i.invariant.2,
     )
 

@@ -33,7 +33,7 @@ pub loop-i-preserved : goal.loop-i-preserved
 loop-i-preserved c =     let i = c.loop-i.i in
     let s = c.args.src.now in (
       omega arith,
-      ap (λ ((goal.at.loop-i-preserved c).After-shared_slice_known-1 : List ℕ). set (goal.at.loop-i-preserved c).After-shared_slice_known-1 i (get_or s i 0)) c.loop-i.invariant.1 ∙ copy_more s c.args.part.now i (omega arith) (omega arith),
+      ap (λ (z : List ℕ). set z i (get_or s i 0)) c.loop-i.invariant.1 ∙ copy_more s c.args.part.now i (omega arith) (omega arith),
       length-set c.loop-i.part i (get_or s i 0) ∙ c.loop-i.invariant.2,
     )
 
