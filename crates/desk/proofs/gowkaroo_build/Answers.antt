@@ -12,14 +12,14 @@ use Rattle.desk.proofs.gowkaroo_build.Goals as goal
 
 pub pack_refusal-requires : goal.pack_refusal-requires
 pack_refusal-requires c = let a = c.args in
-    refusal-small _ (built-answer _ a.arcs.now (length a.ladders.now) (length a.labels.now)) _ (ap built_said (sym c.built-1.given.1 ∙ c.build-built.ensures.value))
+    refusal-small _ (built-answer _ a.arcs.now (length a.ladders.now) (length a.labels.now)) _ (ap built_said (sym c.in-Refused.is ∙ c.build-built.ensures.value))
 
 pub pack-requires : goal.pack-requires
 pack-requires c = let a = c.args in
-    (omega arith, count-few _ (built-answer _ a.arcs.now (length a.ladders.now) (length a.labels.now)) _ (ap built_said (sym c.built-in-Tries-1.given.1 ∙ c.build-built.ensures.value)))
+    (omega arith, count-few _ (built-answer _ a.arcs.now (length a.ladders.now) (length a.labels.now)) _ (ap built_said (sym c.in-Tries.is ∙ c.build-built.ensures.value)))
 
 pub returns-in-Refused : goal.returns-in-Refused
-returns-in-Refused c = let w = rw c.request_from-from.ensures at (c.build-built.ensures.value, c.build-built.ensures.ladders_after, c.build-built.ensures.labels_after) in record { value = c.pack_refusal.ensures ∙ ap (λ (x : Built). packed (built_said x)) (sym c.built-1.given.1 ∙ w.0); ladders_after = w.1.0; labels_after = w.1.1 }
+returns-in-Refused c = let w = rw c.request_from-from.ensures at (c.build-built.ensures.value, c.build-built.ensures.ladders_after, c.build-built.ensures.labels_after) in record { value = c.pack_refusal.ensures ∙ ap (λ (x : Built). packed (built_said x)) (sym c.in-Refused.is ∙ w.0); ladders_after = w.1.0; labels_after = w.1.1 }
 
 pub returns-in-Tries : goal.returns-in-Tries
-returns-in-Tries c = let w = rw c.request_from-from.ensures at (c.build-built.ensures.value, c.build-built.ensures.ladders_after, c.build-built.ensures.labels_after) in record { value = c.pack.ensures ∙ count-packed _ _ (ap built_said (sym c.built-in-Tries-1.given.1 ∙ w.0)); ladders_after = w.1.0; labels_after = w.1.1 }
+returns-in-Tries c = let w = rw c.request_from-from.ensures at (c.build-built.ensures.value, c.build-built.ensures.ladders_after, c.build-built.ensures.labels_after) in record { value = c.pack.ensures ∙ count-packed _ _ (ap built_said (sym c.in-Tries.is ∙ w.0)); ladders_after = w.1.0; labels_after = w.1.1 }

@@ -11,10 +11,10 @@ use Rattle.desk.proofs.gowkaroo_list.Goals as goal
 
 pub pack_refusal-requires : goal.pack_refusal-requires
 pack_refusal-requires c = let a = c.args in
-    refusal-small _ (list-answer a.sheet.now (length a.listing.now)) _ (ap said (sym c.listed-1.given.1 ∙ c.list-listed.ensures.value))
+    refusal-small _ (list-answer a.sheet.now (length a.listing.now)) _ (ap said (sym c.in-Refused.is ∙ c.list-listed.ensures.value))
 
 pub returns-in-Refused : goal.returns-in-Refused
-returns-in-Refused c = let l = c.list-listed.ensures in record { value = c.pack_refusal.ensures ∙ ap (λ (x : Listed). packed (said x)) (sym c.listed-1.given.1 ∙ l.value); listing_after = l.listing_after }
+returns-in-Refused c = let l = c.list-listed.ensures in record { value = c.pack_refusal.ensures ∙ ap (λ (x : Listed). packed (said x)) (sym c.in-Refused.is ∙ l.value); listing_after = l.listing_after }
 
 pub returns-in-Bytes : goal.returns-in-Bytes
-returns-in-Bytes c = let l = c.list-listed.ensures in record { value = c.pack.ensures ∙ count-packed _ _ (ap said (sym c.listed-in-Bytes-1.given.1 ∙ l.value)); listing_after = l.listing_after }
+returns-in-Bytes c = let l = c.list-listed.ensures in record { value = c.pack.ensures ∙ count-packed _ _ (ap said (sym c.in-Bytes.is ∙ l.value)); listing_after = l.listing_after }

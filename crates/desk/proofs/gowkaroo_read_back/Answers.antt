@@ -13,19 +13,19 @@ use Rattle.desk.proofs.gowkaroo_read_back.Goals as goal
 
 pub pack_refusal-requires : goal.pack_refusal-requires
 pack_refusal-requires c = let a = c.args in
-    refusal-small _ (back-answer _ a.arcs.now a.labels.now (length a.route.now) a.layer a.node a.cell) _ (ap ending_said (sym c.ending-1.given.1 ∙ c.read_back-back.ensures.ending_value))
+    refusal-small _ (back-answer _ a.arcs.now a.labels.now (length a.route.now) a.layer a.node a.cell) _ (ap ending_said (sym c.in-Refused.is ∙ c.read_back-back.ensures.ending_value))
 
 pub returns-in-Refused : goal.returns-in-Refused
 returns-in-Refused c = let a = c.args in
     let w = rw c.request_from-from.ensures at (c.read_back-back.ensures.ending_value, c.read_back-back.ensures.costs_value, c.read_back-back.ensures.route_after) in
-    let e = sym w.0 ∙ c.ending-1.given.1 in record { value = c.pack_refusal.ensures ∙ ap (λ (x : Ending). packed (ending_said x)) (sym e); costs_after = costs-refused _ a.labels.now (length a.route.now) a.layer a.node a.cell a.costs.now _ e; route_after = w.1.1 }
+    let e = sym w.0 ∙ c.in-Refused.is in record { value = c.pack_refusal.ensures ∙ ap (λ (x : Ending). packed (ending_said x)) (sym e); costs_after = costs-refused _ a.labels.now (length a.route.now) a.layer a.node a.cell a.costs.now _ e; route_after = w.1.1 }
 
 pub returns-in-Empty : goal.returns-in-Empty
 returns-in-Empty c = let a = c.args in
     let w = rw c.request_from-from.ensures at (c.read_back-back.ensures.ending_value, c.read_back-back.ensures.costs_value, c.read_back-back.ensures.route_after) in
-    let e = sym w.0 ∙ c.enum_told-1.given.1 in record { value = c.pack.ensures ∙ packed-refusal 15 0 ∙ ap (λ (x : Ending). packed (ending_said x)) (sym e); costs_after = costs-empty _ a.labels.now (length a.route.now) a.layer a.node a.cell a.costs.now e; route_after = w.1.1 }
+    let e = sym w.0 ∙ c.in-Empty.is in record { value = c.pack.ensures ∙ packed-refusal 15 0 ∙ ap (λ (x : Ending). packed (ending_said x)) (sym e); costs_after = costs-empty _ a.labels.now (length a.route.now) a.layer a.node a.cell a.costs.now e; route_after = w.1.1 }
 
 pub returns-in-Route : goal.returns-in-Route
 returns-in-Route c = let a = c.args in
     let w = rw c.request_from-from.ensures at (c.read_back-back.ensures.ending_value, c.read_back-back.ensures.costs_value, c.read_back-back.ensures.route_after) in
-    let e = sym w.0 ∙ c.ending-in-Route-1.given.1 in record { value = c.pack-in-Route.ensures ∙ count-packed _ _ (ap ending_said (sym e)); costs_after = w.1.0 ∙ costs-route _ a.labels.now (length a.route.now) a.layer a.node a.cell a.costs.now _ e; route_after = w.1.1 }
+    let e = sym w.0 ∙ c.in-Route.is in record { value = c.pack-in-Route.ensures ∙ count-packed _ _ (ap ending_said (sym e)); costs_after = w.1.0 ∙ costs-route _ a.labels.now (length a.route.now) a.layer a.node a.cell a.costs.now _ e; route_after = w.1.1 }

@@ -10,11 +10,11 @@ use Rattle.desk.proofs.gowkaroo_write.Goals as goal
 
 pub pack_refusal-requires : goal.pack_refusal-requires
 pack_refusal-requires c = let a = c.args in
-    refusal-small _ (write-answer _ a.arcs.now (length a.sheet.now)) _ (sym (ap writing_said c.writing-1.given.1) ∙ c.write-writing.ensures.result_value)
+    refusal-small _ (write-answer _ a.arcs.now (length a.sheet.now)) _ (sym (ap writing_said c.in-Refused.is) ∙ c.write-writing.ensures.result_value)
 
 pub returns-in-Refused : goal.returns-in-Refused
 returns-in-Refused c = let a = c.args in
-    let w = rw c.request_from-from.ensures at (c.write-writing.ensures.result_value, c.write-writing.ensures.sheet_after) in record { value = c.pack_refusal.ensures ∙ ap packed (sym (ap writing_said c.writing-1.given.1) ∙ w.0); sheet_after = w.1 }
+    let w = rw c.request_from-from.ensures at (c.write-writing.ensures.result_value, c.write-writing.ensures.sheet_after) in record { value = c.pack_refusal.ensures ∙ ap packed (sym (ap writing_said c.in-Refused.is) ∙ w.0); sheet_after = w.1 }
 
 pub returns-in-Bytes : goal.returns-in-Bytes
-returns-in-Bytes c = let w = rw c.request_from-from.ensures at (c.write-writing.ensures.result_value, c.write-writing.ensures.sheet_after) in record { value = c.pack.ensures ∙ count-packed _ _ (sym (ap writing_said c.writing-in-Bytes-1.given.1) ∙ w.0); sheet_after = w.1 }
+returns-in-Bytes c = let w = rw c.request_from-from.ensures at (c.write-writing.ensures.result_value, c.write-writing.ensures.sheet_after) in record { value = c.pack.ensures ∙ count-packed _ _ (sym (ap writing_said c.in-Bytes.is) ∙ w.0); sheet_after = w.1 }

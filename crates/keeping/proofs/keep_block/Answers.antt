@@ -11,6 +11,7 @@ use Rattle.keeping.proofs.Blocks.{Cleared, Along, none_kept, clear-lent, along-l
 use borrow.Author.Rules.{rules}
 use native.Mathlib.Omega.{arith}
 use Rattle.keeping.proofs.keep_block.Goals as goal
+use Rattle.keeping.proofs.keep_block.Goals.{At-loop-c, Start}
 
 -- what `clear` leaves
 cleared_by : (xs : List ℕ) (n d prev base : ℕ) (p : KeptIn xs n d prev base) (zs : List ℕ) → zs ≡ replicate (length (part xs base (base + n * (d + 2) - base))) 0
@@ -18,7 +19,7 @@ cleared_by : (xs : List ℕ) (n d prev base : ℕ) (p : KeptIn xs n d prev base)
 cleared_by xs n d prev base p zs e = clear-lent xs n d prev base p zs (base + n * (d + 2) - base) (omega arith) e
 
 -- at the head of the loop
-module _ (l : goal.At-loop-c) where
+module _ (l : At-loop-c) where
   -- the place of the block was cleared first
   abbrev cleared-words : List ℕ
   cleared-words =
@@ -50,7 +51,7 @@ module _ (l : goal.At-loop-c) where
       l.loop-c.labels l.loop-c.noted.filled l.loop-c.noted.low l.loop-c.noted.high l.loop-c.at l.loop-c.to l.loop-c.c l.loop-c.invariant
 
 -- a block's words are few
-few_words : (s : goal.Start) → s.args.n * (s.args.d + 2) ≤ 5242880
+few_words : (s : Start) → s.args.n * (s.args.d + 2) ≤ 5242880
 few_words s = block-few s.args.n s.args.d s.requires.few s.requires.small
 
 pub overflow_add-w : goal.overflow_add-w

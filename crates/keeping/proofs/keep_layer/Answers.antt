@@ -7,9 +7,10 @@ use Rattle.keeping.proofs.Layers.{Along, none_kept, along-long, Here, here, can-
 use borrow.Author.Rules.{rules}
 use native.Mathlib.Omega.{arith}
 use Rattle.keeping.proofs.keep_layer.Goals as goal
+use Rattle.keeping.proofs.keep_layer.Goals.{At-loop-v}
 
 -- at the head of the loop
-module _ (l : goal.At-loop-v) where
+module _ (l : At-loop-v) where
   -- the labels are as many words as they came
   kept : length l.loop-v.labels ≡ length l.args.labels.now
   kept =

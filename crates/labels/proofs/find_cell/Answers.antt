@@ -9,9 +9,10 @@ use Rattle.labels.proofs.Finding.{Upto, none_yet, Here, here, lent-ladder, lent_
 use borrow.Author.Rules.{rules}
 use native.Mathlib.Omega.{arith}
 use Rattle.labels.proofs.find_cell.Goals as goal
+use Rattle.labels.proofs.find_cell.Goals.{In-loop-j}
 
 -- in the loop
-module _ (b : goal.In-loop-j) where
+module _ (b : In-loop-j) where
   -- what is known of criterion j: its ladder lies in the buffer, its cost and place in theirs
   known :
       let a = b.args in

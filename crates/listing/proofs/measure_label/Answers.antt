@@ -13,23 +13,25 @@ use Rattle.sheet.specs.Grammar.{tab}
 use Rattle.listing.specs.Listing.{label_word, label_numbers}
 use Rattle.listing.proofs.Lines.{empty-label, filled-label, Stored, numbers-stored}
 use Rattle.listing.proofs.measure_label.Goals as goal
+use Rattle.listing.proofs.measure_label.Goals.{After-label_numbers-n}
 
 -- ---- the numbers, in front of the words that they were stored in
-module _ (c : goal.After-label_numbers-n) where
+module _ (c : After-label_numbers-n) where
   abbrev numbers_of : List ℕ
   numbers_of = label_numbers (asked c.args.request c.args.arcs.now) c.args.labels.now c.args.node c.args.cell
 
   stored : Stored numbers_of c.label_numbers-n.new.numbers c.label_numbers-n.result
   stored =
-      let a = c.args in
-      numbers-stored a.request a.arcs.now a.labels.now a.cells c.requires.tabled a.node a.cell c.requires.node_lt_nodes.0 c.requires.node_lt_nodes.1 _ _ c.label_numbers-n.ensures.value c.label_numbers-n.ensures.numbers_after
+      let s = in
+      let a = s.args in
+      numbers-stored a.request a.arcs.now a.labels.now a.cells s.pre.0 a.node a.cell s.pre.1.0 s.pre.1.1 _ _ c.label_numbers-n.ensures.value c.label_numbers-n.ensures.numbers_after
 
 pub returns-then-not-is_filled : goal.returns-then-not-is_filled
-returns-then-not-is_filled c = let a = c.args in
+returns-then-not-is_filled c =     let a = c.args in
     let h = empty-label (asked a.request a.arcs.now) a.labels.now a.node a.cell (sym c.is_filled.ensures ∙ not-true c.is_filled.result c.if-not-is_filled.true) in record { filled_value = (h.0, omega arith); bytes_value = (ap length h.1, omega arith) }
 
 pub label_numbers-n-requires : goal.label_numbers-n-requires
-label_numbers-n-requires c = let a = c.args in record { tabled = c.requires.tabled; node_lt_nodes = (c.requires.node_lt_nodes.0, c.requires.node_lt_nodes.1, length-replicate {A = ℕ} 68 0) }
+label_numbers-n-requires c =     let a = c.args in record { tabled = c.requires.tabled; node_lt_nodes = (c.requires.node_lt_nodes.0, c.requires.node_lt_nodes.1, length-replicate {A = ℕ} 68 0) }
 
 pub slice_bounds-numbers-end : goal.slice_bounds-numbers-end
 slice_bounds-numbers-end c = omega (arith, stored (goal.at.slice_bounds-numbers-end c).After-label_numbers-n, c.label_numbers-n.ensures.value)
@@ -41,10 +43,10 @@ pub widths-requires : goal.widths-requires
 widths-requires c = omega (arith, (stored (goal.at.widths-requires c).After-label_numbers-n).few, ap length (stored (goal.at.widths-requires c).After-label_numbers-n).front)
 
 pub overflow_add-result : goal.overflow_add-result
-overflow_add-result c = omega (arith, (stored (goal.at.overflow_add-result c).After-label_numbers-n).few, ap length (stored (goal.at.overflow_add-result c).After-label_numbers-n).front, c.widths.ensures.upper_bound)
+overflow_add-result c =     omega (arith, (stored (goal.at.overflow_add-result c).After-label_numbers-n).few, ap length (stored (goal.at.overflow_add-result c).After-label_numbers-n).front, c.widths.ensures.upper_bound)
 
 pub returns : goal.returns
-returns c = let a = c.args in
+returns c =         let a = c.args in
     let f = c.is_filled in
     let t = sym f.ensures ∙ not-false f.result c.if-not-is_filled.false in
     let h = filled-label (asked a.request a.arcs.now) a.labels.now a.node a.cell t in

@@ -11,9 +11,10 @@ use Rattle.listing.specs.declared.Printed.TheVariants as printed
 use Rattle.listing.specs.Listing.{refused_word, refusal_line}
 use Rattle.listing.proofs.Prints.{prints-longer, prints-text}
 use Rattle.listing.proofs.print_refusal.Goals as goal
+use Rattle.listing.proofs.print_refusal.Goals.{After-widths-n}
 
 -- the length that was computed is the line's
-module _ (c : goal.After-widths-n) where
+module _ (c : After-widths-n) where
   abbrev line_of : List ℕ
   line_of = refusal_line c.args.refusal.number c.args.refusal.place
 

@@ -8,9 +8,10 @@ use borrow.Author.Rules.{rules}
 use Rattle.listing.specs.Listing.{refusal_line}
 use Rattle.printout.proofs.Printing.{line-short, printed-bytes, not-longer, printed-text}
 use Rattle.printout.proofs.print_line.Goals as goal
+use Rattle.printout.proofs.print_line.Goals.{Start}
 
 -- the line has room in the text
-module _ (s : goal.Start) where
+module _ (s : Start) where
   abbrev line_of : List ℕ
   line_of = refusal_line s.args.refusal.number s.args.refusal.place
 
@@ -25,7 +26,7 @@ module _ (s : goal.Start) where
 
 pub returns-in-Bytes : goal.returns-in-Bytes
 returns-in-Bytes c = let x = c.print_refusal-printed in
-    let e = printed-bytes (line_of (goal.at.returns-in-Bytes c).Start) c.args.text.now (fits (goal.at.returns-in-Bytes c).Start) c.printed-1.given.0.0 (sym c.printed-1.given.1 ∙ x.ensures.value) in record { value = (e, omega (arith, e, short (goal.at.returns-in-Bytes c).Start)); text_after = x.ensures.out_after ∙ printed-text (line_of (goal.at.returns-in-Bytes c).Start) c.args.text.now (fits (goal.at.returns-in-Bytes c).Start) }
+    let e = printed-bytes (line_of (goal.at.returns-in-Bytes c).Start) c.args.text.now (fits (goal.at.returns-in-Bytes c).Start) c.in-Bytes.n (sym c.in-Bytes.is ∙ x.ensures.value) in record { value = (e, omega (arith, e, short (goal.at.returns-in-Bytes c).Start)); text_after = x.ensures.out_after ∙ printed-text (line_of (goal.at.returns-in-Bytes c).Start) c.args.text.now (fits (goal.at.returns-in-Bytes c).Start) }
 
 pub returns-in-Longer : goal.returns-in-Longer
-returns-in-Longer c = let x = c.print_refusal-printed in let whole = absurd (not-longer (line_of (goal.at.returns-in-Longer c).Start) c.args.text.now (fits (goal.at.returns-in-Longer c).Start) (sym c.enum_told-1.given.1 ∙ x.ensures.value)) in record { value = whole.0; text_after = whole.1 }
+returns-in-Longer c = let x = c.print_refusal-printed in let whole = absurd (not-longer (line_of (goal.at.returns-in-Longer c).Start) c.args.text.now (fits (goal.at.returns-in-Longer c).Start) (sym c.in-Longer.is ∙ x.ensures.value)) in record { value = whole.0; text_after = whole.1 }

@@ -16,6 +16,7 @@ use Rattle.request.proofs.Counts.{count-few, shape-decides, early-decides, bucke
 use borrow.Author.Rules.{rules}
 use native.Mathlib.Omega.{arith}
 use Rattle.request.proofs.check.Goals as goal
+use Rattle.request.proofs.check.Goals.{In_default, In_default-outcome}
 
 -- two criteria or three
 graded-two : (d : ℕ) → 2 ≤ d → d ≤ 3 → (d - 1 ≡ 1) ⊎ (d - 1 ≡ 2)
@@ -27,32 +28,32 @@ graded-two d two three = go (ℕ_discrete d 2)
 
 -- ---- what has been found clear
 -- rows 2 to 8 with 17
-module _ (c : goal.In_default) where
+module _ (c : In_default) where
   abbrev R : Req
   R = asked c.args.q c.args.arcs.now
 
   early : weigh (ask_rows R ++ arc_rows R) ≡ clear
-  early = was-clear c.weigh_asked-asked.result _ c.enum_told-1.given.1 c.weigh_asked-asked.ensures
+  early = was-clear c.weigh_asked-asked.result _ c.in_default.is c.weigh_asked-asked.ensures
 
 -- and row 9
-module _ (c : goal.In_default-outcome) where
-  late : weigh (each (bucket_row (R c)) (R c).graded) ≡ clear
-  late = was-clear c.count_all-counted.result.outcome _ c.enum_told-in_default-outcome-1.given.1 c.count_all-counted.ensures.outcome_value
+module _ (c : In_default-outcome) where
+  late : weigh (each (bucket_row (asked c.args.q c.args.arcs.now)) (asked c.args.q c.args.arcs.now).graded) ≡ clear
+  late = was-clear c.count_all-counted.result.outcome _ c.in_default-outcome.is c.count_all-counted.ensures.outcome_value
 
-  counted : c.count_all-counted.result.counts ≡ count (R c) 0 ∷ count (R c) 1 ∷ []
-  counted = c.count_all-counted.ensures.counts_value c.enum_told-in_default-outcome-1.given.1
+  counted : c.count_all-counted.result.counts ≡ count (asked c.args.q c.args.arcs.now) 0 ∷ count (asked c.args.q c.args.arcs.now) 1 ∷ []
+  counted = c.count_all-counted.ensures.counts_value c.in_default-outcome.is
 
 pub returns-in-Refused : goal.returns-in-Refused
 returns-in-Refused c = let a = c.args in
     let R = asked a.q a.arcs.now in
-    early-decides R c.weigh_asked-asked.result _ c.asked-1.given.1 c.weigh_asked-asked.ensures
+    early-decides R c.weigh_asked-asked.result _ c.in-Refused.is c.weigh_asked-asked.ensures
 
 pub count_all-counted-requires : goal.count_all-counted-requires
 count_all-counted-requires c = record { regular = regular (R (goal.at.count_all-counted-requires c).In_default) (early (goal.at.count_all-counted-requires c).In_default); small = small (R (goal.at.count_all-counted-requires c).In_default) (early (goal.at.count_all-counted-requires c).In_default) }
 
 pub returns-in-Refused-outcome : goal.returns-in-Refused-outcome
 returns-in-Refused-outcome c = let n = c.count_all-counted in
-    bucket-decides (R (goal.at.returns-in-Refused-outcome c).In_default) n.result.outcome _ (early (goal.at.returns-in-Refused-outcome c).In_default) c.outcome-1.given.1 n.ensures.outcome_value
+    bucket-decides (R (goal.at.returns-in-Refused-outcome c).In_default) n.result.outcome _ (early (goal.at.returns-in-Refused-outcome c).In_default) c.in-Refused-outcome.is n.ensures.outcome_value
 
 pub judge_labels-requires : goal.judge_labels-requires
 judge_labels-requires c = let s = small (R (goal.at.judge_labels-requires c).In_default) (early (goal.at.judge_labels-requires c).In_default) in

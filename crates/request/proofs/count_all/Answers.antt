@@ -32,7 +32,7 @@ returns-in-Over c = let a = c.args in
     let R = asked a.q a.arcs.now in
     let l = c.loop-j in record {
       outcome_value = ap said c.refuse.ensures
-          ∙ sym (first-over R l.counts l.j (a.q.criteria - 1) c.loop-j-test.true l.invariant.1 (sym c.enum_told-1.given.1 ∙ c.count_buckets-counted.ensures));
+          ∙ sym (first-over R l.counts l.j (a.q.criteria - 1) c.loop-j-test.true l.invariant.1 (sym c.in-Over.is ∙ c.count_buckets-counted.ensures));
       counts_value = λ q. absurd (not-clear c.refuse.ensures q);
     }
 
@@ -47,7 +47,7 @@ loop-j-preserved c = let a = c.args in
     let R = asked a.q a.arcs.now in
     let l = c.loop-j in
     let h = c.requires.small.three in
-    (omega arith, one_more R l.counts l.j _ (omega arith) l.invariant.1 (sym c.counted-1.given.1 ∙ c.count_buckets-counted.ensures))
+    (omega arith, one_more R l.counts l.j _ (omega arith) l.invariant.1 (sym c.in-Count.is ∙ c.count_buckets-counted.ensures))
 
 pub returns : goal.returns
 returns c = let a = c.args in

@@ -12,13 +12,14 @@ use Rattle.request.proofs.Filling.{ladder_of, long_of, room_for, one_more}
 use borrow.Author.Rules.{rules}
 use native.Mathlib.Omega.{arith}
 use Rattle.request.proofs.fill_ladders.Goals as goal
+use Rattle.request.proofs.fill_ladders.Goals.{At-loop-j}
 
 -- nothing written
 none : (xs ratios counts : List ℕ) → xs ≡ write xs 0 (join (ladder_of ratios counts) 0)
 none xs ratios counts = sym (ap (write xs 0) (join-zero (ladder_of ratios counts)) ∙ write-part xs 0 0)
 
 -- at the head of the loop: the buffer is as long as it came, and there is room for the next ladder
-module _ (l : goal.At-loop-j) where
+module _ (l : At-loop-j) where
   kept : length l.loop-j.ladders ≡ length l.args.ladders.now
   kept = ap length l.loop-j.invariant.2 ∙ length-write l.args.ladders.now 0 (join (ladder_of l.args.ratios l.args.counts) l.loop-j.j)
 

@@ -6,9 +6,10 @@ use Rattle.request.proofs.Counts.{too_many, in-shape}
 use borrow.Author.Rules.{rules}
 use native.Mathlib.Omega.{arith}
 use Rattle.request.proofs.judge_labels.Goals as goal
+use Rattle.request.proofs.judge_labels.Goals.{Start}
 
 -- 4,096 × 4,096 cells, 64 nodes, 64 layers: no product is too large
-products : (s : goal.Start) → (s.args.b1 * s.args.b2 ≤ 16777216) × (s.args.q.nodes * (s.args.b1 * s.args.b2) ≤ 1073741824) × ((s.args.q.hops + 1) * (s.args.q.nodes * (s.args.b1 * s.args.b2)) ≤ 68719476736)
+products : (s : Start) → (s.args.b1 * s.args.b2 ≤ 16777216) × (s.args.q.nodes * (s.args.b1 * s.args.b2) ≤ 1073741824) × ((s.args.q.hops + 1) * (s.args.q.nodes * (s.args.b1 * s.args.b2)) ≤ 68719476736)
 products s =
     let cells = mul-le-mul {n₂ = 4096} {m₂ = 4096} s.requires.2 s.requires.3 in
     let layer = mul-le-mul {n₂ = 64} {m₂ = 16777216} s.requires.0 cells in

@@ -16,15 +16,14 @@ use Rattle.route.proofs.Places.{within-before}
 use Rattle.route.proofs.Leading.{label_is, told, told-not, told-two, told-two-not, lead-ends, lead-none, lead-kept, lead_low, lead-arc}
 use borrow.Author.Rules.{rules}
 use Rattle.route.proofs.leads.Goals as goal
+use Rattle.route.proofs.leads.Goals.{After-arc_holds, After-kept_holds, After-start_holds}
 
 -- ---- what is known at each point
 -- the label, and whether it is a start
-module _ (c : goal.After-start_holds) where
+module _ (c : After-start_holds) where
   abbrev R : Req
   R = asked c.args.q c.args.arcs.now
 
-  abbrev W : List ℕ
-  W = c.args.labels.now
 
   -- the label of the layer, node and cell that were asked for
   abbrev own : List ℕ
@@ -32,7 +31,7 @@ module _ (c : goal.After-start_holds) where
 
   -- it is the one that was looked up
   own_is : c.label-l.result.now ≡ own
-  own_is = let a = c.args in label_is R W _ a.cells a.i a.v a.c c.requires.cells_value c.label-l.ensures
+  own_is = let a = c.args in label_is R c.args.labels.now _ a.cells a.i a.v a.c c.requires.cells_value c.label-l.ensures
 
   -- the test told that it is a start, or that it is none
   starts : c.start_holds.result ≡ true → T (start_holds R c.args.i own c.args.v c.args.c)
@@ -42,71 +41,62 @@ module _ (c : goal.After-start_holds) where
   no_start t = let a = c.args in told-not (λ (z : List ℕ). start_holds R a.i z a.v a.c) t (c.start_holds.ensures a.arcs.now) own_is
 
 -- the label before it, and whether it was kept from there
-module _ (c : goal.After-kept_holds) where
+module _ (c : After-kept_holds) where
   -- the label of its node and cell in the layer before, as it was looked up
   abbrev old : List ℕ
-  old = let a = (start_of c).args in label_in (R c) (W c) (a.i - 1) a.v a.c
+  old = let a = c.args in label_in (asked c.args.q c.args.arcs.now) c.args.labels.now (a.i - 1) a.v a.c
 
   old-is : c.label.result.now ≡ old
-  old-is = let a = (start_of c).args in label_is (R c) (W c) _ a.cells (a.i - 1) a.v a.c (start_of c).pre.1.1 c.label.ensures
+  old-is = let a = c.args in label_is (asked c.args.q c.args.arcs.now) c.args.labels.now _ a.cells (a.i - 1) a.v a.c c.requires.cells_value c.label.ensures
 
-  was-no-start : T (not (start_holds (R c) (start_of c).args.i (own c) (start_of c).args.v (start_of c).args.c))
+  was-no-start : T (not (start_holds (asked c.args.q c.args.arcs.now) c.args.i (label_in R W c.args.i c.args.v c.args.c) c.args.v c.args.c))
   was-no-start = no_start c c.if-start_holds.false
 
   -- the test told that it was kept, or that it was not
-  keeps : c.kept_holds.result ≡ true → T (kept_holds (R c) (start_of c).args.i (own c) old)
-  keeps t = let a = (start_of c).args in told-two (kept_holds (R c) a.i) t (c.kept_holds.ensures a.arcs.now) (own_is c) old-is
+  keeps : c.kept_holds.result ≡ true → T (kept_holds (asked c.args.q c.args.arcs.now) c.args.i (label_in R W c.args.i c.args.v c.args.c) old)
+  keeps t = let a = c.args in told-two (kept_holds (asked c.args.q c.args.arcs.now) a.i) t (c.kept_holds.ensures a.arcs.now) (own_is c) old-is
 
-  no-kept : c.kept_holds.result ≡ false → T (not (kept_holds (R c) (start_of c).args.i (own c) old))
-  no-kept t = let a = (start_of c).args in told-two-not (kept_holds (R c) a.i) t (c.kept_holds.ensures a.arcs.now) (own_is c) old-is
+  no-kept : c.kept_holds.result ≡ false → T (not (kept_holds (asked c.args.q c.args.arcs.now) c.args.i (label_in R W c.args.i c.args.v c.args.c) old))
+  no-kept t = let a = c.args in told-two-not (kept_holds (asked c.args.q c.args.arcs.now) a.i) t (c.kept_holds.ensures a.arcs.now) (own_is c) old-is
 
 -- its arc, the label reached, and whether it came from there
-module _ (c : goal.After-arc_holds) where
-  abbrev step_of : ℕ
-  step_of = c.word-step.result
-
-  abbrev tail_of : ℕ
-  tail_of = c.word-tail.result
-
-  abbrev from-of : ℕ
-  from-of = c.word-from.result
-
+module _ (c : After-arc_holds) where
   -- the link that an answer of the last test makes
   abbrev link-by : Bool → Link
-  link-by b = cond b (link.Came (step_of - 3) tail_of from-of) link.Fails
+  link-by b = cond b (link.Came (c.word-step.result - 3) c.word-tail.result c.word-from.result) link.Fails
 
   -- is where the label leads
-  link-is : link-by c.arc_holds.result ≡ link_of (R (begun c)) (W (begun c)) (start_of (begun c)).args.i (start_of (begun c)).args.v (start_of (begun c)).args.c
+  link-is : link-by c.arc_holds.result ≡ link_of (asked c.args.q c.args.arcs.now) (c.args.labels.now c) (c).args.i (c).args.v (c).args.c
   unfolding step from tail arc
   link-is =
-      let b = begun c in
-      let a = (start_of b).args in
+      let b = in
+      let a = b.args in
       let w = c.word-step in
-      lead-arc (R b) (W b) a.i a.v a.c (was-no-start c) (no-kept c c.if-kept_holds.false)
-      step_of tail_of from-of _ _ (own_is b) w.ensures
+      lead-arc (R b) (c.args.labels.now b) a.i a.v a.c (was-no-start c) (no-kept c c.if-kept_holds.false)
+      c.word-step.result c.word-tail.result c.word-from.result _ _ (own_is b) w.ensures
       (c.word-tail.ensures ∙ ap (λ (z : List ℕ). get_or z 0 0) c.piece.ensures)
       c.word-from.ensures
-      (label_is (R b) (W b) _ a.cells (a.i - 1) tail_of from-of (start_of b).pre.1.1 c.label-reached.ensures) c.arc_holds.ensures
+      (label_is (R b) (c.args.labels.now b) _ a.cells (a.i - 1) c.word-tail.result c.word-from.result b.pre.1.1 c.label-reached.ensures) c.arc_holds.ensures
 
 pub returns-then-start_holds : goal.returns-then-start_holds
-returns-then-start_holds c = let a = c.args in
-    lead-ends (R (goal.at.returns-then-start_holds c).After-start_holds) (W (goal.at.returns-then-start_holds c).After-start_holds) a.i a.v a.c (starts (goal.at.returns-then-start_holds c).After-start_holds c.if-start_holds.true)
+returns-then-start_holds c =     let a = c.args in
+    lead-ends (R (goal.at.returns-then-start_holds c).After-start_holds) c.args.labels.now a.i a.v a.c (starts (goal.at.returns-then-start_holds c).After-start_holds c.if-start_holds.true)
 
 pub returns-then-i-eq0 : goal.returns-then-i-eq0
-returns-then-i-eq0 c = let a = c.args in
-    lead-none (R (goal.at.returns-then-i-eq0 c).After-start_holds) (W (goal.at.returns-then-i-eq0 c).After-start_holds) a.i a.v a.c (no_start (goal.at.returns-then-i-eq0 c).After-start_holds c.if-start_holds.false) c.if-i-eq0.true
+returns-then-i-eq0 c =     let a = c.args in
+    lead-none (R (goal.at.returns-then-i-eq0 c).After-start_holds) c.args.labels.now a.i a.v a.c (no_start (goal.at.returns-then-i-eq0 c).After-start_holds c.if-start_holds.false) c.if-i-eq0.true
 
 pub label-requires : goal.label-requires
 label-requires c = within-before c.requires.within
 
 pub returns-then-kept_holds : goal.returns-then-kept_holds
-returns-then-kept_holds c = let a = c.args in
-    lead-kept (R (goal.at.returns-then-kept_holds c).After-start_holds) (W (goal.at.returns-then-kept_holds c).After-start_holds) a.i a.v a.c (was-no-start (goal.at.returns-then-kept_holds c).After-kept_holds) (keeps (goal.at.returns-then-kept_holds c).After-kept_holds c.if-kept_holds.true)
+returns-then-kept_holds c =         let a = c.args in
+    lead-kept (R (goal.at.returns-then-kept_holds c).After-start_holds) c.args.labels.now a.i a.v a.c (was-no-start (goal.at.returns-then-kept_holds c).After-kept_holds) (keeps (goal.at.returns-then-kept_holds c).After-kept_holds c.if-kept_holds.true)
 
 pub returns-then-step-lt3 : goal.returns-then-step-lt3
 unfolding step
-returns-then-step-lt3 c = let a = c.args in
-    lead_low (R (goal.at.returns-then-step-lt3 c).After-start_holds) (W (goal.at.returns-then-step-lt3 c).After-start_holds) a.i a.v a.c (was-no-start (goal.at.returns-then-step-lt3 c).After-kept_holds) (no-kept (goal.at.returns-then-step-lt3 c).After-kept_holds c.if-kept_holds.false) c.word-step.result _ (own_is (goal.at.returns-then-step-lt3 c).After-start_holds) c.word-step.ensures c.if-step-lt3.true
+returns-then-step-lt3 c =         let a = c.args in
+    lead_low (R (goal.at.returns-then-step-lt3 c).After-start_holds) c.args.labels.now a.i a.v a.c (was-no-start (goal.at.returns-then-step-lt3 c).After-kept_holds) (no-kept (goal.at.returns-then-step-lt3 c).After-kept_holds c.if-kept_holds.false) c.word-step.result _ (own_is (goal.at.returns-then-step-lt3 c).After-start_holds) c.word-step.ensures c.if-step-lt3.true
 
 pub label-reached-requires : goal.label-reached-requires
 label-reached-requires c = within-before c.requires.within

@@ -22,6 +22,7 @@ use Rattle.table.proofs.Building.{criteria-in, cells_small, shape-labels, ladder
 use borrow.Author.Rules.{rules}
 use native.Mathlib.Omega.{arith}
 use Rattle.table.proofs.build_shaped.Goals as goal
+use Rattle.table.proofs.build_shaped.Goals.{After-fill_ladders, After-frame-s, After-ladder_words, Else-ladders-ladder_words, Start}
 
 -- the ladders after `fill_ladders`
 filled : (q : Request) (arcs : List ℕ) (acc : Accepted (asked q arcs)) (s : Shape) (e : s ≡ shape_of (asked q arcs)) (buffer after : List ℕ) (d : ℕ) → d ≡ q.criteria
@@ -32,15 +33,15 @@ filled q arcs acc s e buffer after d fd f =
     ∙ ap (write buffer 0) (filled-ladders q arcs acc s e)
 
 -- the request as the definitions have it
-abbrev R-of : goal.Start → Req
+abbrev R-of : Start → Req
 R-of s = asked s.args.request s.args.arcs.now
 
 -- it has 2 or 3 criteria
-criteria : (s : goal.Start) → (2 ≤ s.args.request.criteria) × (s.args.request.criteria ≤ 3)
+criteria : (s : Start) → (2 ≤ s.args.request.criteria) × (s.args.request.criteria ≤ 3)
 criteria s = criteria-in s.args.request s.args.arcs.now s.requires.0 s.args.shape s.requires.1
 
 -- ---- once it is framed
-module _ (c : goal.After-frame-s) where
+module _ (c : After-frame-s) where
   -- the frame is of this request
   request-is : c.frame-s.result.request ≡ c.args.request
   request-is = request-by c.args.request c.args.shape c.frame-s.result c.frame-s.ensures
@@ -50,37 +51,39 @@ module _ (c : goal.After-frame-s) where
   d_is = criteria-by c.args.request c.args.shape c.frame-s.result c.frame-s.ensures
 
   -- and its labels have the request's width: as many words as the table
-  words_are : c.args.shape.labels * c.frame-s.result.w ≡ label_count (R-of c) * width (R-of c)
+  words_are : c.args.shape.labels * c.frame-s.result.w ≡ label_count (asked c.args.request c.args.arcs.now) * width (asked c.args.request c.args.arcs.now)
   words_are =
-      ap₂ (λ (x y : ℕ). x * y) (shape-labels c.args.request c.args.arcs.now c.requires.0 c.args.shape c.requires.1) (width-by c.args.request c.args.shape c.frame-s.result c.frame-s.ensures)
+      let s = in
+      ap₂ (λ (x y : ℕ). x * y) (shape-labels s.args.request s.args.arcs.now s.pre.0 s.args.shape s.pre.1) (width-by s.args.request s.args.shape c.frame-s.result c.frame-s.ensures)
 
-  table-words : c.args.shape.labels * c.frame-s.result.w ≡ length (table (R-of c))
+  table-words : c.args.shape.labels * c.frame-s.result.w ≡ length (table (asked c.args.request c.args.arcs.now))
   table-words =
-      ap (λ (x : ℕ). c.args.shape.labels * x) (width-by c.args.request c.args.shape c.frame-s.result c.frame-s.ensures)
-      ∙ table-room c.args.request c.args.arcs.now c.requires.0 c.args.shape c.requires.1
+      let s = in
+      ap (λ (x : ℕ). s.args.shape.labels * x) (width-by s.args.request s.args.shape c.frame-s.result c.frame-s.ensures)
+      ∙ table-room s.args.request s.args.arcs.now s.pre.0 s.args.shape s.pre.1
 
 -- ---- once the ladders' words are counted
-module _ (c : goal.After-ladder_words) where
+module _ (c : After-ladder_words) where
   -- they are the ladders' length
-  ladder-words-are : c.ladder_words.result ≡ length (ladders (R-of (start_of c)))
-  ladder-words-are = let s = start_of c in c.ladder_words.ensures ∙ ladder-room s.args.request s.args.arcs.now s.pre.0 s.args.shape s.pre.1
+  ladder-words-are : c.ladder_words.result ≡ length (ladders (asked c.args.request c.args.arcs.now))
+  ladder-words-are = c.ladder_words.ensures ∙ ladder-room c.args.request c.args.arcs.now c.requires.0 c.args.shape c.requires.1
 
 -- the ladders fit
-ladders-fit : (c : goal.Else-ladders-ladder_words) → (let s = start_of c in length (ladders (R-of s)) ≤ length s.args.ladders.now)
+ladders-fit : (c : Else-ladders-ladder_words) → (length (ladders (asked c.args.request c.args.arcs.now)) ≤ length c.args.ladders.now)
 ladders-fit c = omega (arith, ladder-words-are c, c.if-ladders-ladder_words.false)
 
 -- ---- once both buffers are weighed, and the ladders filled
-module _ (c : goal.After-fill_ladders) where
+module _ (c : After-fill_ladders) where
   -- no row holds
-  rows-clear : weigh (build_rows (R-of c) (length c.args.ladders.now) (length c.args.labels.now)) ≡ clear
-  rows-clear = all-clear (R-of c) (length c.args.ladders.now) (length c.args.labels.now) c.requires.0 (ladders-fit c) (omega (arith, words_are c, c.if-labels-words.false))
+  rows-clear : weigh (build_rows (asked c.args.request c.args.arcs.now) (length c.args.ladders.now) (length c.args.labels.now)) ≡ clear
+  rows-clear = all-clear (asked c.args.request c.args.arcs.now) (length c.args.ladders.now) (length c.args.labels.now) c.requires.0 (ladders-fit c) (omega (arith, words_are c, c.if-labels-words.false))
 
   -- the ladders stand at the front of theirs
-  ladders-stand : c.fill_ladders.new.ladders ≡ write c.args.ladders.now 0 (ladders (R-of c))
+  ladders-stand : c.fill_ladders.new.ladders ≡ write c.args.ladders.now 0 (ladders (asked c.args.request c.args.arcs.now))
   ladders-stand = filled c.args.request c.args.arcs.now c.requires.0 c.args.shape c.requires.1 c.args.ladders.now c.fill_ladders.new.ladders _ (d_is c) c.fill_ladders.ensures
 
 pub frame-s-requires : goal.frame-s-requires
-frame-s-requires c = ((criteria (goal.at.frame-s-requires c).Start).0, (criteria (goal.at.frame-s-requires c).Start).1, cells_small c.args.request c.args.arcs.now c.requires.0 c.args.shape c.requires.1)
+frame-s-requires c =     ((criteria (goal.at.frame-s-requires c).Start).0, (criteria (goal.at.frame-s-requires c).Start).1, cells_small c.args.request c.args.arcs.now c.requires.0 c.args.shape c.requires.1)
 
 pub overflow_sub-graded : goal.overflow_sub-graded
 overflow_sub-graded c = omega (arith, criteria (goal.at.overflow_sub-graded c).Start, d_is (goal.at.overflow_sub-graded c).After-frame-s)
@@ -89,32 +92,31 @@ pub ladder_words-requires : goal.ladder_words-requires
 ladder_words-requires c = criteria (goal.at.ladder_words-requires c).Start
 
 pub returns-then-ladders-ladder_words : goal.returns-then-ladders-ladder_words
-returns-then-ladders-ladder_words c = let s = start_of (goal.at.returns-then-ladders-ladder_words c).After-frame-s in
-    let a = s.args in
-    let r = refused_all (R-of s) a.ladders.now a.labels.now 13 1
-    (short-ladders (R-of s) (length a.ladders.now) (length a.labels.now) s.pre.0 (omega (arith, ladder-words-are (goal.at.returns-then-ladders-ladder_words c).After-ladder_words, c.if-ladders-ladder_words.true))) in record { value = r.0; ladders_after = r.1; labels_after = r.2 }
+returns-then-ladders-ladder_words c =     let a = c.args in
+    let r = refused_all (R-of (goal.at.returns-then-ladders-ladder_words c).Start) a.ladders.now a.labels.now 13 1
+    (short-ladders (R-of (goal.at.returns-then-ladders-ladder_words c).Start) (length a.ladders.now) (length a.labels.now) c.requires.0 (omega (arith, ladder-words-are (goal.at.returns-then-ladders-ladder_words c).After-ladder_words, c.if-ladders-ladder_words.true))) in record { value = r.0; ladders_after = r.1; labels_after = r.2 }
 
 pub overflow_mul-words : goal.overflow_mul-words
-overflow_mul-words c = let a = c.args in
+overflow_mul-words c =         let a = c.args in
     let few : a.shape.labels ≤ 1048576 = omega (arith, shape-labels a.request a.arcs.now c.requires.0 a.shape c.requires.1, (accepted-fits (R-of (goal.at.overflow_mul-words c).Start) c.requires.0).labels_few) in
     let wide : c.frame-s.result.w ≤ 5 = omega (arith, width-by a.request a.shape c.frame-s.result c.frame-s.ensures, criteria (goal.at.overflow_mul-words c).Start) in
     omega (arith, mul-le-mul few wide)
 
 pub returns-then-labels-words : goal.returns-then-labels-words
-returns-then-labels-words c = let a = c.args in
+returns-then-labels-words c =             let a = c.args in
     let r = refused_all (R-of (goal.at.returns-then-labels-words c).Start) a.ladders.now a.labels.now 13 2
     (short-labels (R-of (goal.at.returns-then-labels-words c).Start) (length a.ladders.now) (length a.labels.now) c.requires.0 (ladders-fit (goal.at.returns-then-labels-words c).Else-ladders-ladder_words) (omega (arith, words_are (goal.at.returns-then-labels-words c).After-frame-s, c.if-labels-words.true))) in record { value = r.0; ladders_after = r.1; labels_after = r.2 }
 
 pub fill_ladders-requires : goal.fill_ladders-requires
-fill_ladders-requires c = let a = c.args in
+fill_ladders-requires c =             let a = c.args in
     subst (λ (n : ℕ). Ladders a.request.ratios (a.shape.b1 ∷ a.shape.b2 ∷ []) n (length a.ladders.now)) (sym (ap (λ (d : ℕ). d - 1) (d_is (goal.at.fill_ladders-requires c).After-frame-s)))
     (can-fill a.request a.arcs.now c.requires.0 a.shape c.requires.1 (length a.ladders.now) (ladders-fit (goal.at.fill_ladders-requires c).Else-ladders-ladder_words))
 
 pub draw_up-requires : goal.draw_up-requires
-draw_up-requires c = let a = c.args in
+draw_up-requires c =             let a = c.args in
     let same = ap (λ (q : Request). length (table (asked q a.arcs.now))) (request-is (goal.at.draw_up-requires c).After-frame-s) in record { framed = framed-by a.request a.arcs.now c.requires.0 a.shape c.requires.1 a.ladders.now c.fill_ladders.new.ladders (ladders-fit (goal.at.draw_up-requires c).Else-ladders-ladder_words) (ladders-stand (goal.at.draw_up-requires c).After-fill_ladders) c.frame-s.result c.frame-s.ensures; arcs_in_bounds = omega (arith, same, table-words (goal.at.draw_up-requires c).After-frame-s, c.if-labels-words.false) }
 
 pub returns : goal.returns
-returns c = let a = c.args in
+returns c =     let a = c.args in
     let r = built-all (R-of (goal.at.returns c).Start) a.ladders.now a.labels.now (rows-clear (goal.at.returns c).After-fill_ladders) in
     let d = c.draw_up in record { value = ap built.Tries (d.ensures.value ∙ ap (λ (q : Request). tries (asked q a.arcs.now) q.hops) (request-is (goal.at.returns c).After-frame-s)) ∙ r.0; ladders_after = ladders-stand (goal.at.returns c).After-fill_ladders ∙ r.1; labels_after = d.ensures.labels_after ∙ ap (λ (q : Request). write a.labels.now 0 (table (asked q a.arcs.now))) (request-is (goal.at.returns c).After-frame-s) ∙ r.2 }

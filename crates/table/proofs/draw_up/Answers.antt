@@ -20,6 +20,7 @@ use Rattle.table.proofs.Layers.{one-layer, start-stands, over-start}
 use borrow.Author.Rules.{rules}
 use native.Mathlib.Omega.{arith}
 use Rattle.table.proofs.draw_up.Goals as goal
+use Rattle.table.proofs.draw_up.Goals.{After-start_layer, Start}
 
 module _ (s : Frame) (arcs ladders : List ℕ) (f : Framed (asked s.request arcs) s ladders) where
   -- a block holds a label at least
@@ -37,13 +38,13 @@ module _ (s : Frame) (arcs ladders : List ℕ) (f : Framed (asked s.request arcs
       ∙ ap (write xs 0) (layer_is (asked s.request arcs) one_label)
 
 -- the request that was framed
-abbrev R-of : goal.Start → Req
+abbrev R-of : Start → Req
 R-of s = asked s.args.s.request s.args.arcs.now
 
 -- once layer 0 was written
-module _ (c : goal.After-start_layer) where
+module _ (c : After-start_layer) where
   -- it stands at the front of the labels
-  written : c.start_layer.new.labels ≡ write c.args.labels.now 0 (start_layer (R-of c))
+  written : c.start_layer.new.labels ≡ write c.args.labels.now 0 (start_layer (asked c.args.s.request c.args.arcs.now))
   written = let a = c.args in started a.s a.arcs.now a.ladders.now c.requires.framed a.labels.now c.start_layer.new.labels c.start_layer.ensures
 
 pub overflow_cast-n : goal.overflow_cast-n

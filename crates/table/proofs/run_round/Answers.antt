@@ -9,9 +9,10 @@ use Rattle.table.proofs.Layers.{kept_here, notes-here, round-law, round-tries}
 use borrow.Author.Rules.{rules}
 use native.Mathlib.Omega.{arith}
 use Rattle.table.proofs.run_round.Goals as goal
+use Rattle.table.proofs.run_round.Goals.{After-keep_layer}
 
 -- once the layer is kept
-module _ (c : goal.After-keep_layer) where
+module _ (c : After-keep_layer) where
   abbrev R-of : Req
   R-of = asked c.args.s.request c.args.arcs.now
 
@@ -36,7 +37,7 @@ try_arcs-requires c = let x = c.keep_layer in
     let a = c.args in
     let few = p.framed.bounded.nodes_few in
     let n = layer-notes a.s a.arcs.now a.ladders.now p.framed a.labels.now a.prev a.base _ _ _
-    (omega (arith, few, x.auto.1.0)) (omega (arith, few, x.auto.1.1.0)) (omega (arith, few, x.auto.1.1.1.0)) x.ensures.noted_all in record { framed = p.framed; layered = layered-later (R-of (goal.at.try_arcs-requires c).After-keep_layer) a.labels.now x.new.labels _ a.prev a.base p.layered (kept (goal.at.try_arcs-requires c).After-keep_layer); arcs_value = kept_here (R-of (goal.at.try_arcs-requires c).After-keep_layer) p.framed.regular a.labels.now a.prev a.base p.layered x.new.labels (kept (goal.at.try_arcs-requires c).After-keep_layer); notes = notes-here (R-of (goal.at.try_arcs-requires c).After-keep_layer) p.framed.regular a.labels.now a.prev a.base p.layered x.new.labels (kept (goal.at.try_arcs-requires c).After-keep_layer) _ _ _ n }
+    (omega (arith, few, x.auto.filled)) (omega (arith, few, x.auto.lows)) (omega (arith, few, x.auto.highs)) x.ensures.noted_all in record { framed = p.framed; layered = layered-later (R-of (goal.at.try_arcs-requires c).After-keep_layer) a.labels.now x.new.labels _ a.prev a.base p.layered (kept (goal.at.try_arcs-requires c).After-keep_layer); arcs_value = kept_here (R-of (goal.at.try_arcs-requires c).After-keep_layer) p.framed.regular a.labels.now a.prev a.base p.layered x.new.labels (kept (goal.at.try_arcs-requires c).After-keep_layer); notes = notes-here (R-of (goal.at.try_arcs-requires c).After-keep_layer) p.framed.regular a.labels.now a.prev a.base p.layered x.new.labels (kept (goal.at.try_arcs-requires c).After-keep_layer) _ _ _ n }
 
 pub returns : goal.returns
 returns c = let x = c.keep_layer in

@@ -19,6 +19,7 @@ use Rattle.table.proofs.Layers.{Drawn, first-drawn, drawn-length, next-layered, 
 use borrow.Author.Rules.{rules}
 use native.Mathlib.Omega.{arith}
 use Rattle.table.proofs.run_rounds.Goals as goal
+use Rattle.table.proofs.run_rounds.Goals.{At-loop-i, In-loop-i}
 
 module _ (s : Frame) (arcs ladders : List ℕ) (f : Framed (asked s.request arcs) s ladders) where
   -- 512 arcs of at most 1,048,576 cells a round, 63 rounds
@@ -33,7 +34,7 @@ module _ (s : Frame) (arcs ladders : List ℕ) (f : Framed (asked s.request arcs
   rounds-few i h = mul-le-mul h round-few
 
 -- at the head of the loop, over the request that was framed
-module _ (l : goal.At-loop-i) where
+module _ (l : At-loop-i) where
   abbrev R-of : Req
   R-of = asked l.args.s.request l.args.arcs.now
 
@@ -46,10 +47,10 @@ module _ (l : goal.At-loop-i) where
   kept = drawn-length R-of l.requires.framed.regular l.args.labels.now l.loop-i.labels l.loop-i.base l.loop-i.tries l.loop-i.i l.loop-i.invariant l.requires.arcs_in_bounds.0
 
 -- in the loop: the layer of this round stands behind the layer before
-layered : (b : goal.In-loop-i) → (Layered (R-of b) b.loop-i.labels b.loop-i.base (b.loop-i.base + layer_words (R-of b)))
+layered : (b : In-loop-i) → (Layered (asked b.args.s.request b.args.arcs.now) b.loop-i.labels b.loop-i.base (b.loop-i.base + layer_words (asked b.args.s.request b.args.arcs.now)))
 layered b =
     let l = b.loop-i in
-    next-layered (R-of b) b.requires.framed.regular b.args.labels.now l.labels l.base l.tries l.i l.invariant b.requires.arcs_in_bounds.0 b.loop-i-test.true (lower-stays b.args.s.request.criteria)
+    next-layered (asked b.args.s.request b.args.arcs.now) b.requires.framed.regular b.args.labels.now l.labels l.base l.tries l.i l.invariant b.requires.arcs_in_bounds.0 b.loop-i-test.true (lower-stays b.args.s.request.criteria)
 
 pub overflow_cast-layer : goal.overflow_cast-layer
 overflow_cast-layer c = omega (arith, c.requires.framed.bounded.nodes_few)

@@ -13,6 +13,7 @@ use Rattle.table.proofs.Starting.{one_block}
 use borrow.Author.Rules.{rules}
 use native.Mathlib.Omega.{arith}
 use Rattle.table.proofs.start_layer.Goals as goal
+use Rattle.table.proofs.start_layer.Goals.{At-loop-v}
 
 -- nothing written
 none : (xs : List ℕ) (f : ℕ → List ℕ) → xs ≡ write xs 0 (join f 0)
@@ -22,7 +23,7 @@ next-end : (v span at : ℕ) → at ≡ v * span → at + span ≡ (v + 1) * spa
 next-end v span at e = let m = add-mul v 1 span in let o = one-mul span in omega arith
 
 -- at the head of the loop
-module _ (l : goal.At-loop-v) where
+module _ (l : At-loop-v) where
   -- the blocks of the layer
   abbrev blocks : ℕ → List ℕ
   blocks v = start_words l.args.span l.args.d (eqb v l.args.source)

@@ -14,9 +14,10 @@ use Rattle.table.proofs.OneArc.{arc-count, Here, here}
 use Rattle.table.proofs.Passing.{layer_words, Along, none_yet, along-length, tries-few, arc-apart, tail-range, tail-count, one-arc, all-passed}
 use native.Mathlib.Omega.{arith}
 use Rattle.table.proofs.try_arcs.Goals as goal
+use Rattle.table.proofs.try_arcs.Goals.{After-block_at-in-loop-a, At-loop-a, In-loop-a}
 
 -- at the head of the loop, over the request that was framed
-module _ (l : goal.At-loop-a) where
+module _ (l : At-loop-a) where
   abbrev R-of : Req
   R-of = asked l.args.s.request l.args.arcs.now
 
@@ -33,44 +34,42 @@ module _ (l : goal.At-loop-a) where
       tries-few R-of a.labels.now a.prev a.base l.requires.framed.regular l.requires.layered l.loop-a.labels l.loop-a.tries l.loop-a.a l.loop-a.invariant
 
 -- in the loop: arc a's two nodes are in the request, and their blocks in a layer
-arc-of : (b : goal.In-loop-a) → (Here b.args.s b.args.arcs.now b.args.ladders.now b.requires.framed b.loop-a.a)
+arc-of : (b : In-loop-a) → (Here b.args.s b.args.arcs.now b.args.ladders.now b.requires.framed b.loop-a.a)
 arc-of b = here b.args.s b.args.arcs.now b.args.ladders.now b.requires.framed b.loop-a.a b.loop-a-test.true
 
 -- once the two blocks are found
-module _ (c : goal.After-block_at-in-loop-a) where
+module _ (c : After-block_at-in-loop-a) where
   abbrev R : Req
-  R = R-of c
+  R = (asked c.args.s.request c.args.arcs.now)
 
-  abbrev from : ℕ
-  from = c.args.prev + c.block_at.result
+ + c.block_at.result
 
-  abbrev to : ℕ
-  to = c.args.base + c.block_at-in-loop-a.result
+ + c.block_at-in-loop-a.result
 
   -- the tail's is in the layer before, the head's in this one
-  from_is : from ≡ c.args.prev + tail R c.loop-a.a * span R
+  from_is : c.args.prev ≡ c.args.prev + tail R c.loop-a.a * span R
   from_is = omega (arith, arc-of c, c.block_at.ensures)
 
-  to_is : to ≡ c.args.base + head R c.loop-a.a * span R
+  to_is : c.args.base ≡ c.args.base + head R c.loop-a.a * span R
   to_is = omega (arith, arc-of c, c.block_at-in-loop-a.ensures)
 
   -- they stand apart, and what the tail kept was tried
-  apart : Apart R c.loop-a.labels from to c.loop-a.a
+  apart : Apart R c.loop-a.labels c.args.prev to c.loop-a.a
   apart =
       let l = c.loop-a in
       let a = c.args in
-      arc-apart R a.labels.now a.prev a.base c.requires.framed.regular c.requires.layered l.labels l.tries l.a l.invariant (arc-of c).index from to from_is to_is
+      arc-apart R a.labels.now a.prev a.base c.requires.framed.regular c.requires.layered l.labels l.tries l.a l.invariant (arc-of c).index c.args.prev c.args.base from_is to_is
       (lower-stays a.s.request.criteria) c.requires.arcs_value
 
   -- the range that was noted for the tail holds its filled labels
   abbrev tail-node : ℕ
   tail-node = get_or c.args.arcs.now (c.loop-a.a * c.args.s.w) 0
 
-  range : Ranged R (part c.loop-a.labels from (span R)) (get_or c.args.lows.now tail-node 0) (get_or c.args.highs.now tail-node 0)
+  range : Ranged R (part c.loop-a.labels c.args.prev (span R)) (get_or c.args.lows.now tail-node 0) (get_or c.args.highs.now tail-node 0)
   range =
       let l = c.loop-a in
       let a = c.args in
-      tail-range R a.labels.now a.prev a.base c.requires.framed.regular c.requires.layered l.labels l.tries l.a l.invariant (arc-of c).index from to from_is to_is
+      tail-range R a.labels.now a.prev a.base c.requires.framed.regular c.requires.layered l.labels l.tries l.a l.invariant (arc-of c).index c.args.prev c.args.base from_is to_is
       a.filled.now a.lows.now a.highs.now c.requires.notes _ _
       (ap (λ (v : ℕ). get_or a.lows.now v 0) (arc-of c).tail-is) (ap (λ (v : ℕ). get_or a.highs.now v 0) (arc-of c).tail-is)
 
@@ -79,7 +78,7 @@ module _ (c : goal.After-block_at-in-loop-a) where
   noted =
       let l = c.loop-a in
       let a = c.args in
-      tail-count R a.labels.now a.prev a.base c.requires.framed.regular c.requires.layered l.labels l.tries l.a l.invariant (arc-of c).index from to from_is to_is
+      tail-count R a.labels.now a.prev a.base c.requires.framed.regular c.requires.layered l.labels l.tries l.a l.invariant (arc-of c).index c.args.prev c.args.base from_is to_is
       a.filled.now a.lows.now a.highs.now c.requires.notes _ (ap (λ (v : ℕ). get_or a.filled.now v 0) (arc-of c).tail-is)
 
 pub nonzero_div-m : goal.nonzero_div-m
@@ -132,7 +131,7 @@ bounds-filled-tail c = omega (arith, arc-of (goal.at.bounds-filled-tail c).In-lo
 
 -- at most 512 arcs of 1,048,576 cells
 pub overflow_add-tries : goal.overflow_add-tries
-overflow_add-tries c = let few : cells (R (goal.at.overflow_add-tries c).After-block_at-in-loop-a) ≤ 1048576 = omega (arith, c.requires.framed.sized, c.requires.framed.cells_is) in
+overflow_add-tries c =     let few : cells (R (goal.at.overflow_add-tries c).After-block_at-in-loop-a) ≤ 1048576 = omega (arith, c.requires.framed.sized, c.requires.framed.cells_is) in
     let most : c.loop-a.a ≤ 512 = omega (arith, arc-of (goal.at.overflow_add-tries c).In-loop-a) in
     omega (arith, counted (goal.at.overflow_add-tries c).At-loop-a, mul-le-mul most few, noted (goal.at.overflow_add-tries c).After-block_at-in-loop-a, filled_in-le (R (goal.at.overflow_add-tries c).After-block_at-in-loop-a) (block (R (goal.at.overflow_add-tries c).After-block_at-in-loop-a) (part c.args.labels.now c.args.prev (layer_words (R (goal.at.overflow_add-tries c).After-block_at-in-loop-a))) (tail (R (goal.at.overflow_add-tries c).After-block_at-in-loop-a) c.loop-a.a)))
 
@@ -158,17 +157,17 @@ pub loop-a-smaller : goal.loop-a-smaller
 loop-a-smaller c = omega (arith, arc-of (goal.at.loop-a-smaller c).In-loop-a)
 
 pub loop-a-preserved : goal.loop-a-preserved
-loop-a-preserved c = let made = c.try_arc in
+loop-a-preserved c =     let made = c.try_arc in
     let l = c.loop-a in
     let a = c.args in
-    one-arc (R (goal.at.loop-a-preserved c).After-block_at-in-loop-a) a.labels.now a.prev a.base c.requires.framed.regular c.requires.layered l.labels l.tries l.a l.invariant (arc-of (goal.at.loop-a-preserved c).In-loop-a).index (from (goal.at.loop-a-preserved c).After-block_at-in-loop-a) (to (goal.at.loop-a-preserved c).After-block_at-in-loop-a) (from_is (goal.at.loop-a-preserved c).After-block_at-in-loop-a) (to_is (goal.at.loop-a-preserved c).After-block_at-in-loop-a)
+    one-arc (R (goal.at.loop-a-preserved c).After-block_at-in-loop-a) a.labels.now a.prev a.base c.requires.framed.regular c.requires.layered l.labels l.tries l.a l.invariant (arc-of (goal.at.loop-a-preserved c).In-loop-a).index c.args.prev c.args.base (from_is (goal.at.loop-a-preserved c).After-block_at-in-loop-a) (to_is (goal.at.loop-a-preserved c).After-block_at-in-loop-a)
     made.new.labels _ made.ensures (noted (goal.at.loop-a-preserved c).After-block_at-in-loop-a)
 
 pub shape_of-labels : goal.shape_of-labels
 shape_of-labels c = kept (goal.at.shape_of-labels c).At-loop-a
 
 pub returns : goal.returns
-returns c = let a = c.args in
+returns c =     let a = c.args in
     let l = c.loop-a in
     let m = arc-count a.s a.arcs.now a.ladders.now c.requires.framed in
     let e : l.a ≡ arc_count (R-of (goal.at.returns c).At-loop-a) = omega (arith, l.invariant.inside) in let whole = all-passed (R-of (goal.at.returns c).At-loop-a) a.labels.now a.prev a.base l.labels l.tries l.a l.invariant e in record { labels_after = whole.0; value = whole.1 }

@@ -13,18 +13,19 @@ use Rattle.text.proofs.Fields.{rest-is, before-length}
 use Rattle.text.proofs.Numbers.{number-fault}
 use Rattle.text.proofs.Lines.{item-end, item-other, item-read}
 use Rattle.text.proofs.item_at.Goals as goal
+use Rattle.text.proofs.item_at.Goals.{After-number_of}
 
-abbrev at_of : goal.After-number_of → ℕ
+abbrev at_of : After-number_of → ℕ
 at_of c = c.args.at
 
-abbrev line_of : goal.After-number_of → List ℕ
+abbrev line_of : After-number_of → List ℕ
 line_of c = c.args.line.now
 
-abbrev sep-of : goal.After-number_of → ℕ
+abbrev sep-of : After-number_of → ℕ
 sep-of c = c.args.sep
 
 -- what the field that was cut says is what the line says at `at`
-module _ (c : goal.After-number_of) where
+module _ (c : After-number_of) where
   field_is : c.cut-field.result.now ≡ before (sep-of c) (drop (at_of c + 1) (line_of c))
   field_is = c.cut-field.ensures ∙ ap (before (sep-of c)) (rest-is (line_of c) (at_of c + 1))
 
@@ -39,11 +40,11 @@ pub returns-then-line-at-2 : goal.returns-then-line-at-2
 returns-then-line-at-2 c = sym (item-other _ _ _ (omega arith) c.if-line-at-2.true)
 
 pub overflow_add-result-in-Fault : goal.overflow_add-result-in-Fault
-overflow_add-result-in-Fault c = let e : number c.cut-field.result.now ≡ Fault c.i-1.given.0.0 = sym c.number_of_lem.ensures ∙ c.i-1.given.1 in
-    omega (arith, number-fault c.cut-field.result.now c.i-1.given.0.0 e, ap length (field_is (goal.at.overflow_add-result-in-Fault c).After-number_of), before-length (sep-of (goal.at.overflow_add-result-in-Fault c).After-number_of) (drop (at_of (goal.at.overflow_add-result-in-Fault c).After-number_of + 1) (line_of (goal.at.overflow_add-result-in-Fault c).After-number_of)), length-drop (at_of (goal.at.overflow_add-result-in-Fault c).After-number_of + 1) (line_of (goal.at.overflow_add-result-in-Fault c).After-number_of))
+overflow_add-result-in-Fault c = let e : number c.cut-field.result.now ≡ Fault c.in-Fault.i = sym c.number_of_lem.ensures ∙ c.in-Fault.is in
+    omega (arith, number-fault c.cut-field.result.now c.in-Fault.i e, ap length (field_is (goal.at.overflow_add-result-in-Fault c).After-number_of), before-length (sep-of (goal.at.overflow_add-result-in-Fault c).After-number_of) (drop (at_of (goal.at.overflow_add-result-in-Fault c).After-number_of + 1) (line_of (goal.at.overflow_add-result-in-Fault c).After-number_of)), length-drop (at_of (goal.at.overflow_add-result-in-Fault c).After-number_of + 1) (line_of (goal.at.overflow_add-result-in-Fault c).After-number_of))
 
 pub returns-in-Value : goal.returns-in-Value
-returns-in-Value c = sym (reads_so (goal.at.returns-in-Value c).After-number_of ∙ ap (placed _ _) c.v-1.given.1)
+returns-in-Value c = sym (reads_so (goal.at.returns-in-Value c).After-number_of ∙ ap (placed _ _) c.in-Value.is)
 
 pub returns-in-Fault : goal.returns-in-Fault
-returns-in-Fault c = sym (reads_so (goal.at.returns-in-Fault c).After-number_of ∙ ap (placed _ _) c.i-1.given.1)
+returns-in-Fault c = sym (reads_so (goal.at.returns-in-Fault c).After-number_of ∙ ap (placed _ _) c.in-Fault.is)

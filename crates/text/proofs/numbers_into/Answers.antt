@@ -14,15 +14,15 @@ pub shape_of-out-in-Wrong : goal.shape_of-out-in-Wrong
 shape_of-out-in-Wrong c = c.loop-i.invariant.long
 
 pub returns-in-Wrong : goal.returns-in-Wrong
-returns-in-Wrong c = let whole = reading-wrong _ _ _ _ _ _ _ c.loop-i.invariant c.j-1.given.0.0 (omega (arith, c.loop-i.invariant.long))
-    (sym c.item_at.ensures ∙ c.j-1.given.1) in record { value = whole.0; out_after = whole.1 }
+returns-in-Wrong c = let whole = reading-wrong _ _ _ _ _ _ _ c.loop-i.invariant c.in-Wrong.j (omega (arith, c.loop-i.invariant.long))
+    (sym c.item_at.ensures ∙ c.in-Wrong.is) in record { value = whole.0; out_after = whole.1 }
 
 pub loop-i-smaller : goal.loop-i-smaller
 loop-i-smaller c = omega (arith, c.loop-i.invariant.long)
 
 pub loop-i-preserved : goal.loop-i-preserved
 loop-i-preserved c = reading-on _ _ _ _ _ _ _ c.loop-i.invariant _ _ (omega (arith, c.loop-i.invariant.long)) (simp length-set c.loop-i.invariant.long)
-    (sym c.item_at.ensures ∙ c.v-1.given.1)
+    (sym c.item_at.ensures ∙ c.in-Found.is)
 
 pub shape_of-out-then-at-line : goal.shape_of-out-then-at-line
 shape_of-out-then-at-line c = c.loop-i.invariant.long

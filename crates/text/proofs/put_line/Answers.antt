@@ -5,11 +5,12 @@ use native.Mathlib.Omega.{arith}
 use lib.ListN.{length, length-set}
 use Rattle.text.proofs.Puts.{line-put, line-length}
 use Rattle.text.proofs.put_line.Goals as goal
+use Rattle.text.proofs.put_line.Goals.{After-put_numbers-b}
 
 -- behind the word and the numbers there is room for the LF
-module _ (c : goal.After-put_numbers-b) where
+module _ (c : After-put_numbers-b) where
   kept : length c.put_numbers-b.new.out ≡ length c.args.out.now
-  kept = omega (arith, c.put_bytes-a.auto.0, c.put_numbers-b.auto.0)
+  kept = omega (arith, c.put_bytes-a.auto.out, c.put_numbers-b.auto.out)
 
   room : c.put_numbers-b.result < length c.args.out.now
   room =
@@ -23,7 +24,7 @@ put_bytes-a-requires c = let a = c.args in
 pub put_numbers-b-requires : goal.put_numbers-b-requires
 put_numbers-b-requires c = let a = c.args in
     let b = c.put_bytes-a in
-    omega (arith, line-length a.sep a.word.now a.vs.now, c.requires, b.ensures.value, b.auto.0)
+    omega (arith, line-length a.sep a.word.now a.vs.now, c.requires, b.ensures.value, b.auto.out)
 
 pub bounds-out-b : goal.bounds-out-b
 bounds-out-b c = omega (arith, room (goal.at.bounds-out-b c).After-put_numbers-b, kept (goal.at.bounds-out-b c).After-put_numbers-b)

@@ -11,8 +11,9 @@ use Rattle.text.specs.Number.{digits}
 use Rattle.text.specs.Line.{parted}
 use Rattle.text.proofs.Puts.{parted-end, parted-room, parted-none, numbers-next}
 use Rattle.text.proofs.put_numbers.Goals as goal
+use Rattle.text.proofs.put_numbers.Goals.{In-loop-i}
 
-room : (c : goal.In-loop-i)
+room : (c : In-loop-i)
     → c.loop-i.a + 1 + length (digits (get_or c.args.vs.now c.loop-i.i 0)) ≤ length c.loop-i.out
 room c =
     let a = c.args in
@@ -35,7 +36,7 @@ put_number-a-requires c = simp length-set (room (goal.at.put_number-a-requires c
 pub loop-i-preserved : goal.loop-i-preserved
 loop-i-preserved c = let a = c.args in
     let e = c.put_number-a.ensures in
-    let k = c.put_number-a.auto.0 in
+    let k = c.put_number-a.auto.out in
     let n : length (set c.loop-i.out c.loop-i.a a.sep) ≡ length c.loop-i.out = length-set c.loop-i.out c.loop-i.a a.sep in (
       omega arith,
       omega (arith, c.loop-i.invariant.1),

@@ -9,9 +9,10 @@ use Rattle.text.specs.Line.{parted_width}
 use Rattle.text.proofs.Digits.{width_word}
 use Rattle.text.proofs.Puts.{width-none, width-next}
 use Rattle.text.proofs.widths.Goals as goal
+use Rattle.text.proofs.widths.Goals.{After-width}
 
 -- each number is a word, and has at most ten digits
-short : (c : goal.After-width) → c.width.result ≤ 10
+short : (c : After-width) → c.width.result ≤ 10
 short c =
     let v = get_or c.args.vs.now c.loop-i.i 0 in
     let h : v < 4294967296 = omega (arith, c.shared_slice_known-in-loop-i-1.given c.loop-i.i) in

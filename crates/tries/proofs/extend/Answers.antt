@@ -12,9 +12,10 @@ use Rattle.tries.proofs.Offering.{made-law}
 use borrow.Author.Rules.{rules}
 use native.Mathlib.Omega.{arith}
 use Rattle.tries.proofs.extend.Goals as goal
+use Rattle.tries.proofs.extend.Goals.{After-add_costs, Start}
 
 -- where the label's and the arc's words are, and how many
-module _ (s : goal.Start) where
+module _ (s : Start) where
   -- a label fits into the scratch words
   abbrev scratch : List ℕ
   scratch = 0 ∷ 0 ∷ 0 ∷ 0 ∷ 0 ∷ []
@@ -23,11 +24,11 @@ module _ (s : goal.Start) where
   front_long = length-take-le s.args.s.w scratch (omega (arith, s.requires.sized.words, s.requires.sized.few))
 
 -- the scratch words after `add_costs`
-module _ (c : goal.After-add_costs) where
+module _ (c : After-add_costs) where
   scratch-long : length c.add_costs.new.out ≡ c.args.s.w
-  scratch-long = c.add_costs.auto.0 ∙ front_long c
+  scratch-long = c.add_costs.auto.out ∙ front_long c
 
-  scratch-front : take c.args.s.w (c.add_costs.new.out ++ drop c.args.s.w (scratch c)) ≡ c.add_costs.new.out
+  scratch-front : take c.args.s.w (c.add_costs.new.out ++ drop c.args.s.w (0 ∷ 0 ∷ 0 ∷ 0 ∷ 0 ∷ [])) ≡ c.add_costs.new.out
   scratch-front = take_at c.add_costs.new.out _ c.args.s.w scratch-long
 
   -- they hold the candidate

@@ -8,13 +8,14 @@ use Rattle.tries.proofs.Fresh.{Past, none-past, all_past, step_in, found, one-pa
 use borrow.Author.Rules.{rules}
 use native.Mathlib.Omega.{arith}
 use Rattle.tries.proofs.next_fresh.Goals as goal
+use Rattle.tries.proofs.next_fresh.Goals.{In-loop-i, Start}
 
 -- the words before the first cell are few
-few_words : (s : goal.Start) → s.args.c * (s.args.d + 2) ≤ 5242880
+few_words : (s : Start) → s.args.c * (s.args.d + 2) ≤ 5242880
 few_words s = block-few s.args.c s.args.d s.requires.0 (omega (arith, s.requires.1, s.requires.2))
 
 -- in the loop: cell i's step is in the block
-module _ (b : goal.In-loop-i) where
+module _ (b : In-loop-i) where
   inside : b.loop-i.at + 2 ≤ length b.args.block.now
   inside = let a = b.args in let l = b.loop-i in step_in a.d a.block.now a.c a.high l.at l.i b.requires.3 l.invariant b.loop-i-test.true
 

@@ -6,14 +6,14 @@ use Rattle.tries.proofs.Offering.{offer-law}
 use borrow.Author.Rules.{rules}
 use native.Mathlib.Omega.{arith}
 use Rattle.tries.proofs.offer.Goals as goal
+use Rattle.tries.proofs.offer.Goals.{After-label_at}
 
 -- once the cell's place is found
-module _ (k : goal.After-label_at) where
-  abbrev place_of : ℕ
-  place_of = k.args.to + k.label_at.result
+module _ (k : After-label_at) where
+ + k.label_at.result
 
   -- what is lent there is a label's words
-  lent-size : place_of + k.args.s.w - place_of ≡ k.args.s.d + 2
+  lent-size : k.args.to + k.args.s.w - k.args.to ≡ k.args.s.d + 2
   lent-size = omega (arith, k.requires.sized.words)
 
 pub overflow_add-at : goal.overflow_add-at
@@ -29,13 +29,13 @@ pub slice_bounds-place-end : goal.slice_bounds-place-end
 slice_bounds-place-end c = omega (arith, (c.requires.sized, c.requires.cell_lt_cells))
 
 pub place-requires : goal.place-requires
-place-requires c = let long = length_part c.args.labels.now (place_of (goal.at.place-requires c).After-label_at) (place_of (goal.at.place-requires c).After-label_at + c.args.s.w - place_of (goal.at.place-requires c).After-label_at) (omega (arith, (c.requires.sized, c.requires.cell_lt_cells), c.label_at.ensures.1)) in
+place-requires c =         let long = length_part c.args.labels.now c.args.to (c.args.to + c.args.s.w - c.args.to) (omega (arith, (c.requires.sized, c.requires.cell_lt_cells), c.label_at.ensures.1)) in
     (long ∙ lent-size (goal.at.place-requires c).After-label_at, c.requires.cell_lt_cells.1 ∙ c.requires.sized.words, c.requires.sized.some)
 
 pub returns : goal.returns
-returns c = let a = c.args in
+returns c =         let a = c.args in
     let w = c.requires.sized.words in
     let r = c.label_at in
     let x = c.place in
-    offer-law a.s.d a.cand.now a.labels.now x.new.cell a.to a.s.span a.cell r.result (place_of (goal.at.returns c).After-label_at + a.s.w - place_of (goal.at.returns c).After-label_at)
+    offer-law a.s.d a.cand.now a.labels.now x.new.cell a.to a.s.span a.cell r.result (c.args.to + a.s.w - c.args.to)
     (r.ensures.0 ∙ ap (λ (n : ℕ). a.cell * n) w) (omega (arith, w, r.ensures.1)) c.requires.cell_lt_cells.2 (c.requires.cell_lt_cells.1 ∙ w) (lent-size (goal.at.returns c).After-label_at) x.ensures

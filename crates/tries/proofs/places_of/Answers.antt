@@ -6,9 +6,10 @@ use Rattle.tries.proofs.Digits.{Digits, none-divided, one-divided}
 use borrow.Author.Rules.{rules}
 use native.Mathlib.Omega.{arith}
 use Rattle.tries.proofs.places_of.Goals as goal
+use Rattle.tries.proofs.places_of.Goals.{In-loop-j}
 
 -- in the loop: place j - 1 is one of two
-module _ (b : goal.In-loop-j) where
+module _ (b : In-loop-j) where
   in_two : (b.loop-j.j - 1 < 2) × (b.loop-j.j - 1 < length b.loop-j.places)
   in_two = let l = b.loop-j in (omega (arith, b.requires.0, l.invariant.inside, b.loop-j-test.true), omega (arith, b.requires.0, l.invariant.inside, l.invariant.two, b.loop-j-test.true))
 

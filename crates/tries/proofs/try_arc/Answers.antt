@@ -16,9 +16,10 @@ use Rattle.tries.proofs.Arcs.{Along, low_first, still, passed_over, one_more, al
 use borrow.Author.Rules.{rules}
 use native.Mathlib.Omega.{arith}
 use Rattle.tries.proofs.try_arc.Goals as goal
+use Rattle.tries.proofs.try_arc.Goals.{After-extend, After-label_at, After-loop-c, After-next_fresh-c-in-loop-c, After-places_of, Start, Then-high-c}
 
 -- over the request that was framed
-module _ (s : goal.Start) where
+module _ (s : Start) where
   abbrev R-of : Req
   R-of = asked s.args.s.request s.args.arcs.now
 
@@ -85,9 +86,9 @@ module _ (s : goal.Start) where
         all_words R-of p.framed.regular (lower-stays a.s.request.criteria) a.labels.now a.from a.to a.a a.low a.high p.apart p.a_bound p.ranged ls c g
 
 -- in the loop, once the label is found
-module _ (k : goal.After-label_at) where
+module _ (k : After-label_at) where
   -- cell c is one of the block's, and filled
-  in_c : k.loop-c.c < cells (R-of k)
+  in_c : k.loop-c.c < cells (asked k.args.s.request k.args.arcs.now)
   in_c = omega (arith, k.requires.ranged.inside, k.loop-c-test.true)
 
   not-empty : get_or k.loop-c.labels (k.args.from + k.label_at.result + k.args.s.d) 0 ≡ 0 → ⊥
@@ -102,30 +103,30 @@ module _ (k : goal.After-label_at) where
       k.label_at.result k.label_at.ensures.0 k.requires.a_bound l.places l.invariant.1 not-empty
 
 -- once it is extended
-module _ (x : goal.After-extend) where
+module _ (x : After-extend) where
   -- cell c is tried
-  tried : Tried x x.extend.last.0 ((head_of x).loop.c + 1)
+  tried : Tried x x.extend.last.0 (x.loop-c.c + 1)
   tried =
       let a = x.args in
       let p = x.requires in
-      let l = (head_of x).loop in
-      one_more (R-of x) p.framed.regular (lower-stays a.s.request.criteria) a.labels.now a.from a.to a.a a.low a.high p.apart p.a_bound p.ranged l.labels l.c l.inv.0
+      let l = x.loop-c in
+      one_more (asked x.args.s.request x.args.arcs.now) p.framed.regular (lower-stays a.s.request.criteria) a.labels.now a.from a.to a.a a.low a.high p.apart p.a_bound p.ranged l.labels l.c l.invariant.0
       x.loop-c-test.true x.extend.last.0
       (x.extend.ensures.0
-      ∙ filled-try a.s a.arcs.now a.ladders.now l.labels a.from a.to a.a l.c p.framed (stands x l.labels l.c l.inv.0).1 (in_c x)
-      x.label_at.result x.label_at.ensures.0 p.a_bound l.places l.inv.1 (not-empty x) x.extend.result x.extend.last.1.1.1.0 x.extend.ensures.1)
+      ∙ filled-try a.s a.arcs.now a.ladders.now l.labels a.from a.to a.a l.c p.framed (stands x l.labels l.c l.invariant.0).1 (in_c x)
+      x.label_at.result x.label_at.ensures.0 p.a_bound l.places l.invariant.1 (not-empty x) x.extend.result x.extend.last.1.1.1.0 x.extend.ensures.1)
 
   -- its places are those to look from next
-  hints : Hinted (R-of x) x.extend.last.1.1.1.0
+  hints : Hinted (asked x.args.s.request x.args.arcs.now) x.extend.last.1.1.1.0
   hints =
       let a = x.args in
-      let l = (head_of x).loop in
-      filled-hints a.s a.arcs.now a.ladders.now l.labels a.from a.to a.a l.c x.requires.framed (stands x l.labels l.c l.inv.0).1 (in_c x)
-      x.label_at.result x.label_at.ensures.0 x.requires.a_bound l.places l.inv.1 (not-empty x) x.extend.result x.extend.last.1.1.1.0 x.extend.ensures.1
+      let l = x.loop-c in
+      filled-hints a.s a.arcs.now a.ladders.now l.labels a.from a.to a.a l.c x.requires.framed (stands x l.labels l.c l.invariant.0).1 (in_c x)
+      x.label_at.result x.label_at.ensures.0 x.requires.a_bound l.places l.invariant.1 (not-empty x) x.extend.result x.extend.last.1.1.1.0 x.extend.ensures.1
 
   -- the labels are as many words as they came
   abbrev long : length x.extend.last.0 ≡ length x.args.labels.now
-  long = (stands x x.extend.last.0 ((head_of x).loop.c + 1) tried).0
+  long = (stands x x.extend.last.0 (x.loop-c.c + 1) tried).0
 
 pub overflow_add-end : goal.overflow_add-end
 overflow_add-end c = omega (arith, all-far (goal.at.overflow_add-end c).Start)
@@ -140,7 +141,7 @@ pub slice_bounds-next_fresh-end : goal.slice_bounds-next_fresh-end
 slice_bounds-next_fresh-end c = omega (arith, all-far (goal.at.slice_bounds-next_fresh-end c).Start)
 
 pub next_fresh-c-requires : goal.next_fresh-c-requires
-next_fresh-c-requires c = ((all-far (goal.at.next_fresh-c-requires c).Start).wide, c.requires.ranged.ordered, (all-far (goal.at.next_fresh-c-requires c).Start).few, room (goal.at.next_fresh-c-requires c).After-next_fresh-arg-1 c.args.labels.now c.args.low (first (goal.at.next_fresh-c-requires c).Start))
+next_fresh-c-requires c = ((all-far (goal.at.next_fresh-c-requires c).Start).wide, c.requires.ranged.ordered, (all-far (goal.at.next_fresh-c-requires c).Start).few, room (goal.at.next_fresh-c-requires c).Start c.args.labels.now c.args.low (first (goal.at.next_fresh-c-requires c).Start))
 
 pub shape_of-labels-then-high-c : goal.shape_of-labels-then-high-c
 shape_of-labels-then-high-c c = refl
@@ -160,9 +161,9 @@ pub loop-c-init : goal.loop-c-init
 loop-c-init c = let a = c.args in
     let x = c.next_fresh-c in
     let y = c.places_of in (
-      passed (goal.at.loop-c-init c).After-places-2-1 a.labels.now a.low (first (goal.at.loop-c-init c).Start) x.result x.ensures,
+      passed (goal.at.loop-c-init c).After-places_of a.labels.now a.low (first (goal.at.loop-c-init c).Start) x.result x.ensures,
       places-hint a.s a.arcs.now a.ladders.now a.labels.now a.from a.to a.a a.low a.high c.requires.framed c.requires.apart c.requires.ranged y.new.places y.ensures.0 y.ensures.1,
-      full (goal.at.loop-c-init c).After-places-2-1 a.labels.now a.low (first (goal.at.loop-c-init c).Start) x.result x.ensures,
+      full (goal.at.loop-c-init c).After-places_of a.labels.now a.low (first (goal.at.loop-c-init c).Start) x.result x.ensures,
     )
 
 pub label_at-requires : goal.label_at-requires
@@ -187,21 +188,21 @@ pub slice_bounds-next_fresh-end-in-loop-c : goal.slice_bounds-next_fresh-end-in-
 slice_bounds-next_fresh-end-in-loop-c c = omega (arith, all-far (goal.at.slice_bounds-next_fresh-end-in-loop-c c).Start, long (goal.at.slice_bounds-next_fresh-end-in-loop-c c).After-extend)
 
 pub overflow_add-c : goal.overflow_add-c
-overflow_add-c c = let l = head_of (goal.at.overflow_add-c c).After-label_at in omega (arith, far (start_of l) l.loop.c l.loop.inv.0.inside)
+overflow_add-c c = omega (arith, far (goal.at.overflow_add-c c).Start c.loop-c.c c.loop-c.invariant.0.inside)
 
 pub next_fresh-c-requires-in-loop-c : goal.next_fresh-c-requires-in-loop-c
-next_fresh-c-requires-in-loop-c c = ((all-far (goal.at.next_fresh-c-requires-in-loop-c c).Start).wide, omega (arith, c.loop-c-test.true), (all-far (goal.at.next_fresh-c-requires-in-loop-c c).Start).few, room (goal.at.next_fresh-c-requires-in-loop-c c).Start c.extend.new.labels ((head_of (goal.at.next_fresh-c-requires-in-loop-c c).After-label_at).loop.c + 1) (tried (goal.at.next_fresh-c-requires-in-loop-c c).After-extend))
+next_fresh-c-requires-in-loop-c c = ((all-far (goal.at.next_fresh-c-requires-in-loop-c c).Start).wide, omega (arith, c.loop-c-test.true), (all-far (goal.at.next_fresh-c-requires-in-loop-c c).Start).few, room (goal.at.next_fresh-c-requires-in-loop-c c).After-extend c.extend.new.labels (((goal.at.next_fresh-c-requires-in-loop-c c).After-extend).loop.c + 1) (tried (goal.at.next_fresh-c-requires-in-loop-c c).After-extend))
 
 pub loop-c-smaller : goal.loop-c-smaller
 loop-c-smaller c = omega (arith, c.loop-c-test.true, c.next_fresh-c-in-loop-c.ensures)
 
 pub loop-c-preserved : goal.loop-c-preserved
 loop-c-preserved c = let y = c.next_fresh-c-in-loop-c in
-    let n = (head_of (goal.at.loop-c-preserved c).After-label_at).loop.c + 1 in
-    (passed (goal.at.loop-c-preserved c).Start c.extend.new.labels n (tried (goal.at.loop-c-preserved c).After-extend) y.result y.ensures, hints (goal.at.loop-c-preserved c).After-extend, full (goal.at.loop-c-preserved c).Start c.extend.new.labels n (tried (goal.at.loop-c-preserved c).After-extend) y.result y.ensures)
+    let n = ((goal.at.loop-c-preserved c).After-next_fresh-c-in-loop-c).loop.c + 1 in
+    (passed (goal.at.loop-c-preserved c).After-next_fresh-c-in-loop-c c.extend.new.labels n (tried (goal.at.loop-c-preserved c).After-extend) y.result y.ensures, hints (goal.at.loop-c-preserved c).After-extend, full (goal.at.loop-c-preserved c).After-next_fresh-c-in-loop-c c.extend.new.labels n (tried (goal.at.loop-c-preserved c).After-extend) y.result y.ensures)
 
 pub shape_of-labels : goal.shape_of-labels
-shape_of-labels c = let l = c.loop-c in (stands (goal.at.shape_of-labels c).Start l.labels l.c l.invariant.0).0
+shape_of-labels c = let l = c.loop-c in (stands (goal.at.shape_of-labels c).After-loop-c l.labels l.c l.invariant.0).0
 
 pub returns : goal.returns
-returns c = let l = c.loop-c in all-tried (goal.at.returns c).Start l.labels l.c l.invariant.0 (omega (arith, l.invariant.0.inside))
+returns c = let l = c.loop-c in all-tried (goal.at.returns c).After-loop-c l.labels l.c l.invariant.0 (omega (arith, l.invariant.0.inside))

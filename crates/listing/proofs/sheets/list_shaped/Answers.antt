@@ -19,6 +19,7 @@ use Rattle.listing.specs.List.{listing_of}
 use Rattle.listing.proofs.Rooms.{ladders-few, tries-few}
 use Rattle.listing.proofs.Requests.{lists-many, lists-printed, build_refused, build-tries, build-words, tabled, table-front}
 use Rattle.listing.proofs.sheets.list_shaped.Goals as goal
+use Rattle.listing.proofs.sheets.list_shaped.Goals.{After-answer_of, After-build-built, In-Tries}
 
 -- the listing of the words that were built is the request's
 listing-is : (R : Req) (W : List ℕ) (t : ℕ) → W ≡ table R → t ≡ tries R R.hops → listing_text R W t ≡ listing_of R
@@ -26,7 +27,7 @@ unfolding listing_of
 listing-is R W t e f = ap₂ (listing_text R) e f
 
 -- ---- after the build
-module _ (c : goal.After-build-built) where
+module _ (c : After-build-built) where
   abbrev R-of : Req
   R-of = asked c.args.request c.args.arcs.now
 
@@ -75,29 +76,29 @@ module _ (c : goal.After-build-built) where
     is-tabled = subst (λ (W : List ℕ). Tabled R-of W c.args.shape.cells) (sym front) (tabled c.args.request c.args.arcs.now c.requires.0 c.args.shape c.requires.1)
 
 pub overflow_mul-words : goal.overflow_mul-words
-overflow_mul-words c = omega (arith, few (goal.at.overflow_mul-words c).After-struct_known-in-Tries-1 _ c.built-in-Tries-1.given.1)
+overflow_mul-words c = omega (arith, few (goal.at.overflow_mul-words c).In-Tries _ c.in-Tries.is)
 
 pub slice_bounds-labels-end : goal.slice_bounds-labels-end
-slice_bounds-labels-end c = let e = c.built-in-Tries-1.given.1 in
-    omega (arith, few (goal.at.slice_bounds-labels-end c).After-struct_known-in-Tries-1 _ e, long (goal.at.slice_bounds-labels-end c).After-struct_known-in-Tries-1 _ e)
+slice_bounds-labels-end c = let e = c.in-Tries.is in
+    omega (arith, few (goal.at.slice_bounds-labels-end c).In-Tries _ e, long (goal.at.slice_bounds-labels-end c).In-Tries _ e)
 
 pub slice_bounds-print-end : goal.slice_bounds-print-end
-slice_bounds-print-end c = let e = c.built-in-Tries-1.given.1 in
-    sym (length-take-le _ _ (omega (arith, few (goal.at.slice_bounds-print-end c).After-labels-in-Tries-1 _ e, long (goal.at.slice_bounds-print-end c).After-labels-in-Tries-1 _ e)))
+slice_bounds-print-end c = let e = c.in-Tries.is in
+    sym (length-take-le _ _ (omega (arith, few (goal.at.slice_bounds-print-end c).In-Tries _ e, long (goal.at.slice_bounds-print-end c).In-Tries _ e)))
 
 pub overflow_cast-t : goal.overflow_cast-t
-overflow_cast-t c = omega (arith, small (goal.at.overflow_cast-t c).After-labels-in-Tries-1 _ c.built-in-Tries-1.given.1)
+overflow_cast-t c = omega (arith, small (goal.at.overflow_cast-t c).In-Tries _ c.in-Tries.is)
 
 pub print-requires : goal.print-requires
-print-requires c = is-tabled (goal.at.print-requires c).After-print-arg-1 _ c.built-in-Tries-1.given.1
+print-requires c = is-tabled (goal.at.print-requires c).In-Tries _ c.in-Tries.is
 
 pub returns-in-Refused : goal.returns-in-Refused
-returns-in-Refused c = let r = c.built-1.given.0.0 in
-    let p = build_refused (R-of (goal.at.returns-in-Refused c).After-build-built) c.requires.0 (length (replicate {A = ℕ} 8194 0)) (enough (goal.at.returns-in-Refused c).After-build-built) r (sym c.built-1.given.1 ∙ answered (goal.at.returns-in-Refused c).After-build-built) in
+returns-in-Refused c = let r = c.in-Refused.r in
+    let p = build_refused (R-of (goal.at.returns-in-Refused c).After-build-built) c.requires.0 (length (replicate {A = ℕ} 8194 0)) (enough (goal.at.returns-in-Refused c).After-build-built) r (sym c.in-Refused.is ∙ answered (goal.at.returns-in-Refused c).After-build-built) in
     let l = lists-many (R-of (goal.at.returns-in-Refused c).After-build-built) c.args.listing.now c.requires.0 p.0 in record { value = ap listed.Refused p.1 ∙ l.says; listing_after = l.left }
 
 pub returns-in-Tries : goal.returns-in-Tries
-returns-in-Tries c = let e = c.built-in-Tries-1.given.1 in
+returns-in-Tries c = let e = c.in-Tries.is in
     let p = c.print in
     let t = listing-is (R-of (goal.at.returns-in-Tries c).After-build-built) _ _ (front (goal.at.returns-in-Tries c).After-answer_of _ e) (counted (goal.at.returns-in-Tries c).After-answer_of _ e) in
     let l = lists-printed (R-of (goal.at.returns-in-Tries c).After-build-built) c.args.listing.now c.requires.0 (fits (goal.at.returns-in-Tries c).After-answer_of _ e) p.result p.new.listing

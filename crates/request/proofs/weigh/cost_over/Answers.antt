@@ -12,10 +12,7 @@ use Rattle.request.proofs.Tests.{lt-holds, lt-fails}
 use borrow.Author.Rules.{rules}
 use native.Mathlib.Omega.{arith}
 use Rattle.request.proofs.weigh.cost_over.Goals as goal
-
--- cost j of the arc is over
-abbrev over : List ℕ → ℕ → Bool
-over arc j = ltb 1000000 (get_or arc (j + 2) 0)
+use Rattle.request.proofs.weigh.cost_over.Invariants.{over}
 
 pub loop-j-init : goal.loop-j-init
 loop-j-init c = (zero-le, λ i l. absurd (not-suc-le-zero l))

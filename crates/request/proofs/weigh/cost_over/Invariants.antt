@@ -13,6 +13,10 @@ use borrow.Author.Rules.{rules}
 use native.Mathlib.Omega.{arith}
 use Rattle.request.proofs.weigh.cost_over.Given as goal
 
+-- cost j of the arc is over
+abbrev pub over : List ℕ → ℕ → Bool
+over arc j = ltb 1000000 (get_or arc (j + 2) 0)
+
 abbrev pub invariant-loop-j : goal.invariant-loop-j
 invariant-loop-j l = (l.j ≤ l.d) × ((i : ℕ) → i < l.j → T (not (over l.arc i)))
 

@@ -15,9 +15,10 @@ use Rattle.request.proofs.Branches.{arc-good, arcs-refused}
 use borrow.Author.Rules.{rules}
 use native.Mathlib.Omega.{arith}
 use Rattle.request.proofs.weigh.weigh_arcs.Goals as goal
+use Rattle.request.proofs.weigh.weigh_arcs.Goals.{At-loop-a}
 
 -- at the head of the loop: arc a ends within the words
-module _ (l : goal.At-loop-a) where
+module _ (l : At-loop-a) where
   arc-end : l.loop-a.a < length l.args.arcs.now / (l.args.d + 2) → l.loop-a.a * (l.args.d + 2) + (l.args.d + 2) ≤ length l.args.arcs.now
   arc-end t = quotient-end (l.args.d + 2) (length l.args.arcs.now) l.loop-a.a t
 

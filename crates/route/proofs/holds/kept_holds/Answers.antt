@@ -11,6 +11,7 @@ use Rattle.route.specs.Chain.{agrees, kept_holds}
 use Rattle.route.proofs.Holding.{not-held, word-inside, Keeps, kept-facts, kept-rest, agree-empty, agree-filled}
 use borrow.Author.Rules.{rules}
 use Rattle.route.proofs.holds.kept_holds.Goals as goal
+use Rattle.route.proofs.holds.kept_holds.Goals.{Else-word-ne0, Then-i-eq0, Then-word-ne0, Then-word-ne2}
 
 -- ---- what is known at each point
 
@@ -20,7 +21,7 @@ were : (s : tie.Start) (arcs : List ℕ) → T (kept_holds (asked s.args.q arcs)
 were s arcs t = let a = s.args in kept-facts (asked a.q arcs) a.i a.l.now a.reached.now t
 
 -- once the step of the label reached is read, all but its costs is right
-module _ (c : goal.After-word-3) where
+module _ (c : Else-word-ne0) where
   -- the label's step is 2, so it has a step and the costs before it
   long : c.args.q.criteria < length c.args.l.now
   long =
@@ -55,12 +56,12 @@ unfolding step
 returns-then-word-eq0 c = λ arcs.
     let a = c.args in
     let R = asked a.q arcs in
-    agree-empty R (costs R a.l.now) a.reached.now (costs R a.reached.now) (sym c.word-3.ensures ∙ c.if-word-eq0.true) ∙ rest (goal.at.returns-then-word-eq0 c).After-word-3 arcs
+    agree-empty R (costs R a.l.now) a.reached.now (costs R a.reached.now) (sym c.word-3.ensures ∙ c.if-word-eq0.true) ∙ rest (goal.at.returns-then-word-eq0 c).Else-word-ne0 arcs
 
 pub same_costs-requires : goal.same_costs-requires
 same_costs-requires c = let a = c.args in
     let u = word-inside a.reached.now a.q.criteria (λ e. c.if-word-eq0.false (c.word-3.ensures ∙ e)) in
-    (omega (arith, long (goal.at.same_costs-requires c).After-word-3), omega arith)
+    (omega (arith, long (goal.at.same_costs-requires c).Else-word-ne0), omega arith)
 
 pub returns : goal.returns
 unfolding step costs
@@ -69,4 +70,4 @@ returns c = λ arcs.
     let R = asked a.q arcs in
     c.same_costs.ensures
     ∙ agree-filled R (costs R a.l.now) a.reached.now (costs R a.reached.now) (λ e. c.if-word-eq0.false (c.word-3.ensures ∙ e))
-    ∙ rest (goal.at.returns c).After-word-3 arcs
+    ∙ rest (goal.at.returns c).Else-word-ne0 arcs

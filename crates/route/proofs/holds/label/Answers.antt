@@ -4,9 +4,10 @@ use native.Mathlib.Omega.{arith}
 use Rattle.route.proofs.Places.{label-fits}
 use borrow.Author.Rules.{rules}
 use Rattle.route.proofs.holds.label.Goals as goal
+use Rattle.route.proofs.holds.label.Goals.{Start}
 
 -- the label's number is small, and so are the numbers that make it up
-fits : (s : goal.Start) → (s.args.i * s.args.q.nodes ≤ 4032)
+fits : (s : Start) → (s.args.i * s.args.q.nodes ≤ 4032)
     × ((s.args.i * s.args.q.nodes + s.args.v) * s.args.cells ≤ 4503603855228928)
     × ((s.args.i * s.args.q.nodes + s.args.v) * s.args.cells + s.args.c ≤ 9007199254740992)
 fits s = label-fits {v = s.args.v} {c = s.args.c} s.requires (omega arith) (omega arith)

@@ -11,14 +11,15 @@ use Rattle.route.specs.Chain.{start_holds}
 use Rattle.route.proofs.Holding.{not-held, word-inside, Starts, start-facts, start-rest}
 use borrow.Author.Rules.{rules}
 use Rattle.route.proofs.holds.start_holds.Goals as goal
+use Rattle.route.proofs.holds.start_holds.Goals.{Else-c-ne0, Start}
 
 -- what the label has, were it a start
-were : (s : goal.Start) (arcs : List ℕ) → T (start_holds (asked s.args.q arcs) s.args.i s.args.l.now s.args.v s.args.c)
+were : (s : Start) (arcs : List ℕ) → T (start_holds (asked s.args.q arcs) s.args.i s.args.l.now s.args.v s.args.c)
     → Starts (asked s.args.q arcs) s.args.i s.args.l.now s.args.v s.args.c
 were s arcs t = let a = s.args in start-facts (asked a.q arcs) a.i a.l.now a.v a.c t
 
 -- its step is 1, so it has a step and the costs before it
-long : (c : goal.After-word-2) → c.args.q.criteria < length c.args.l.now
+long : (c : Else-c-ne0) → c.args.q.criteria < length c.args.l.now
 long c =
     let a = c.args in
     let is-step = c.word.ensures in
@@ -43,7 +44,7 @@ unfolding from
 returns-then-word-ne0 c = λ arcs. not-held _ (λ t. c.if-word-ne0.true (c.word-2.ensures ∙ (were (goal.at.returns-then-word-ne0 c).Start arcs t).from_is))
 
 pub costs_nothing-requires : goal.costs_nothing-requires
-costs_nothing-requires c = omega (arith, long (goal.at.costs_nothing-requires c).After-word-2)
+costs_nothing-requires c = omega (arith, long (goal.at.costs_nothing-requires c).Else-c-ne0)
 
 pub returns : goal.returns
 unfolding step from costs

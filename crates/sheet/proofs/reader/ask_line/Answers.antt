@@ -28,10 +28,10 @@ returns-in-Good c = let w = c.word_line in
     let d = c.args.d in
     let line = c.args.line.now in
     let k = lent-words d c.requires.1 in
-    let g = told-good ask_word (d * 2) _ line _ w.ensures.value k c.enum_told-1.given.1 in
+    let g = told-good ask_word (d * 2) _ line _ w.ensures.value k c.in-Good.is in
     let e : w.new.out ≡ taken_of (ask_line d line) = filled ask_word (d * 2) line (taken_of (ask_line d line)) _ _ k g w.ensures.out_after in
     sym (ap ask_kind g ∙ ap Ask (sym (padded-ask d w.new.out (taken_of (ask_line d line)) c.requires.0 c.requires.1 e (line_of-was tab ask_word (d * 2) line (taken_of (ask_line d line)) g).1)))
 
 pub returns-in-Bad : goal.returns-in-Bad
 returns-in-Bad c = let w = c.word_line in
-    sym (ap ask_kind (told-bad _ _ _ _ _ w.ensures.value (lent-words c.args.d c.requires.1) _ c.enum_told-in-Bad-1.given.1))
+    sym (ap ask_kind (told-bad _ _ _ _ _ w.ensures.value (lent-words c.args.d c.requires.1) _ c.in-Bad.is))

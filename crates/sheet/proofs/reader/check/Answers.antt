@@ -14,35 +14,26 @@ use Rattle.sheet.specs.Inside.{form_of}
 use Rattle.sheet.proofs.LineKinds.{told-good, told-bad, filled}
 use Rattle.sheet.proofs.First.{sheet-loose, sheet-line, first_two, first_three, first-other}
 use Rattle.sheet.proofs.reader.check.Goals as goal
+use Rattle.sheet.proofs.reader.check.Goals.{After-word_line}
 
 -- the sheet by what was read of its first line
-module _ (c : goal.After-word_line) where
-  abbrev sheet : List ℕ
-  sheet = c.args.sheet.now
+module _ (c : After-word_line) where
+  first-is : sheet_of c.args.sheet.now ≡ after_first (tracks_line c.cut-line.result.now) (drop (length c.cut-line.result.now + 1) c.args.sheet.now)
+  first-is = sheet-line line.args.sheet.now c.cut-line.ensures (omega arith)
 
-  abbrev line : List ℕ
-  line = c.cut-line.result.now
+  first-bad : (j : ℕ) → c.word_line.result ≡ Bad j → sheet_of c.args.sheet.now ≡ broken 1
+  first-bad j e = first-is ∙ ap (λ (g : Got). after_first g (drop (length c.cut-line.result.now + 1) c.args.sheet.now)) (told-bad tracks_word 2 2 _.cut.result.now c.word_line.ensures.value refl j e)
 
-  -- the two numbers as they stand afterwards
-  abbrev two : List ℕ
-  two = c.word_line.new.out
-
-  first-is : sheet_of sheet ≡ after_first (tracks_line line) (drop (length line + 1) sheet)
-  first-is = sheet-line sheet line c.cut-line.ensures (omega arith)
-
-  first-bad : (j : ℕ) → c.word_line.result ≡ Bad j → sheet_of sheet ≡ broken 1
-  first-bad j e = first-is ∙ ap (λ (g : Got). after_first g (drop (length line + 1) sheet)) (told-bad tracks_word 2 2 line _ c.word_line.ensures.value refl j e)
-
-  two-are : c.word_line.result ≡ Good → tracks_line line ≡ good two
+  two-are : c.word_line.result ≡ Good → tracks_line c.cut-line.result.now ≡ good c.word_line.new.out
   two-are e =
-      let g = told-good tracks_word 2 2 line _ c.word_line.ensures.value refl e in
-      g ∙ ap good (sym (filled tracks_word 2 line (taken_of (tracks_line line)) (0 ∷ 0 ∷ []) two refl g c.word_line.ensures.out_after))
+      let g = told-good tracks_word 2 2 _.cut.result.now c.word_line.ensures.value refl e in
+      g ∙ ap good (sym (filled tracks_word 2 c.cut-line.result.now (taken_of (tracks_line c.cut-line.result.now)) (0 ∷ 0 ∷ []) refl.word_line.new.1.1.1.0 g c.word_line.ensures.out_after))
 
-  first_good : c.word_line.result ≡ Good → sheet_of sheet ≡ after_first (good two) (drop (length line + 1) sheet)
-  first_good e = first-is ∙ ap (λ (g : Got). after_first g (drop (length line + 1) sheet)) (two-are e)
+  first_good : c.word_line.result ≡ Good → sheet_of c.args.sheet.now ≡ after_first (good c.word_line.new.out) (drop (length c.cut-line.result.now + 1) c.args.sheet.now)
+  first_good e = first-is ∙ ap (λ (g : Got). after_first g (drop (length c.cut-line.result.now + 1) c.args.sheet.now)) (two-are e)
 
-  two-long : c.word_line.result ≡ Good → length two ≡ 2
-  two-long e = (line_of-was tab tracks_word 2 line two (two-are e)).1
+  two-long : c.word_line.result ≡ Good → length c.word_line.new.out ≡ 2
+  two-long e = (line_of-was tab tracks_word 2 line c.word_line.new.out (two-are e)).1
 
 pub returns-then-sheet-e : goal.returns-then-sheet-e
 returns-then-sheet-e c = sym (ap form_of (sheet-loose _ _ c.cut-line.ensures c.if-sheet-e.true))
@@ -52,16 +43,16 @@ slice-aggregate-word-line-2 : tie.Need-slice-aggregate-word-line-2
 slice-aggregate-word-line-2 c = search rules
 
 pub returns-then-v-eq2 : goal.returns-then-v-eq2
-returns-then-v-eq2 c = let e = c.enum_told-in-Good-1.given.1 in
-    c.check_lines.ensures ∙ sym (ap form_of (first_good (goal.at.returns-then-v-eq2 c).After-word_line e ∙ first_two (two (goal.at.returns-then-v-eq2 c).After-word_line) (drop (length (line (goal.at.returns-then-v-eq2 c).After-word_line) + 1) (sheet (goal.at.returns-then-v-eq2 c).After-word_line)) (two-long (goal.at.returns-then-v-eq2 c).After-word_line e) c.if-v-eq2.true))
+returns-then-v-eq2 c = let e = c.in-Good.is in
+    c.check_lines.ensures ∙ sym (ap form_of (first_good (goal.at.returns-then-v-eq2 c).After-word_line e ∙ first_two c.word_line.new.out (drop (length c.cut-line.result.now + 1) c.args.sheet.now) (two-long (goal.at.returns-then-v-eq2 c).After-word_line e) c.if-v-eq2.true))
 
 pub returns-then-v-eq3 : goal.returns-then-v-eq3
-returns-then-v-eq3 c = let e = c.enum_told-in-Good-1.given.1 in
-    c.check_lines-then-v-eq3.ensures ∙ sym (ap form_of (first_good (goal.at.returns-then-v-eq3 c).After-word_line e ∙ first_three (two (goal.at.returns-then-v-eq3 c).After-word_line) (drop (length (line (goal.at.returns-then-v-eq3 c).After-word_line) + 1) (sheet (goal.at.returns-then-v-eq3 c).After-word_line)) (two-long (goal.at.returns-then-v-eq3 c).After-word_line e) c.if-v-eq3.true))
+returns-then-v-eq3 c = let e = c.in-Good.is in
+    c.check_lines-then-v-eq3.ensures ∙ sym (ap form_of (first_good (goal.at.returns-then-v-eq3 c).After-word_line e ∙ first_three c.word_line.new.out (drop (length c.cut-line.result.now + 1) c.args.sheet.now) (two-long (goal.at.returns-then-v-eq3 c).After-word_line e) c.if-v-eq3.true))
 
 pub returns-in-Bad : goal.returns-in-Bad
-returns-in-Bad c = sym (ap form_of (first-bad (goal.at.returns-in-Bad c).After-word_line _ c.enum_told-1.given.1))
+returns-in-Bad c = sym (ap form_of (first-bad (goal.at.returns-in-Bad c).After-word_line _ c.in-Bad.is))
 
 pub returns-else-v-eq3 : goal.returns-else-v-eq3
-returns-else-v-eq3 c = let e = c.enum_told-in-Good-1.given.1 in
-    sym (ap form_of (first_good (goal.at.returns-else-v-eq3 c).After-word_line e ∙ first-other (two (goal.at.returns-else-v-eq3 c).After-word_line) (drop (length (line (goal.at.returns-else-v-eq3 c).After-word_line) + 1) (sheet (goal.at.returns-else-v-eq3 c).After-word_line)) c.if-v-eq2.false c.if-v-eq3.false))
+returns-else-v-eq3 c = let e = c.in-Good.is in
+    sym (ap form_of (first_good (goal.at.returns-else-v-eq3 c).After-word_line e ∙ first-other c.word_line.new.out (drop (length c.cut-line.result.now + 1) c.args.sheet.now) c.if-v-eq2.false c.if-v-eq3.false))

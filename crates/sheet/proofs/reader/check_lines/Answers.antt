@@ -11,20 +11,15 @@ use Rattle.sheet.specs.Grammar.{lf, lines_from}
 use Rattle.sheet.specs.Inside.{form_of}
 use Rattle.sheet.proofs.Scan.{lines-last, lines_none, says-arc, says-neither, says-ask, says-more}
 use Rattle.sheet.proofs.reader.check_lines.Goals as goal
+use Rattle.sheet.proofs.reader.check_lines.Goals.{After-cut-line}
 
 -- the line that was cut at `at`
-module _ (c : goal.After-cut-line) where
-  abbrev sheet-of : List ℕ
-  sheet-of = c.args.sheet.now
-
-  abbrev line_of : List ℕ
-  line_of = c.cut-line.result.now
-
-  line-is : line_of ≡ before lf (drop c.loop-at.at sheet-of)
+module _ (c : After-cut-line) where
+  line-is : c.cut-line.result.now ≡ before lf (drop c.loop-at.at c.args.sheet.now)
   line-is = c.cut-line.ensures ∙ ap (before lf) (rest-is sheet-of c.loop-at.at)
 
-  line-fits : c.loop-at.at + length line_of ≤ length sheet-of
-  line-fits = omega (arith, ap length line-is, before-length lf (drop c.loop-at.at sheet-of), length-drop c.loop-at.at sheet-of)
+  line-fits : c.loop-at.at + length c.cut-line.result.now ≤ length c.args.sheet.now
+  line-fits = omega (arith, ap length line-is, before-length lf (drop c.loop-at.at c.args.sheet.now), length-drop c.loop-at.at c.args.sheet.now)
 
 pub loop-at-init : goal.loop-at-init
 loop-at-init c = (omega arith, omega arith, omega arith, refl)
@@ -44,15 +39,15 @@ loop-at-preserved c = let a = c.args in (
   omega arith,
   omega arith,
   c.loop-at.invariant.3
-      ∙ says-arc a.nodes a.d c.loop-at.m c.loop-at.k (sheet-of (goal.at.loop-at-preserved c).After-cut-line) c.loop-at.at (line_of (goal.at.loop-at-preserved c).After-cut-line) (line-is (goal.at.loop-at-preserved c).After-cut-line) (omega arith) (omega arith)
-      (sym c.enum_told-1.given.1 ∙ c.kind_of.ensures),
+      ∙ says-arc a.nodes a.d c.loop-at.m c.loop-at.k c.args.sheet.now c.loop-at.at c.cut-line.result.now (line-is (goal.at.loop-at-preserved c).After-cut-line) (omega arith) (omega arith)
+      (sym c.in-Arc.is ∙ c.kind_of.ensures),
 )
 
 pub returns-then-e-sheet : goal.returns-then-e-sheet
 returns-then-e-sheet c = let a = c.args in
     sym (c.loop-at.invariant.3
-    ∙ says-ask a.nodes a.d c.loop-at.m c.loop-at.k (sheet-of (goal.at.returns-then-e-sheet c).After-cut-line) c.loop-at.at (line_of (goal.at.returns-then-e-sheet c).After-cut-line) (line-is (goal.at.returns-then-e-sheet c).After-cut-line) (omega arith) (omega arith)
-    c.ask-1.given.0.0 (sym c.ask-1.given.1 ∙ c.kind_of.ensures) c.if-e-sheet.true)
+    ∙ says-ask a.nodes a.d c.loop-at.m c.loop-at.k c.args.sheet.now c.loop-at.at c.cut-line.result.now (line-is (goal.at.returns-then-e-sheet c).After-cut-line) (omega arith) (omega arith)
+    c.in-Ask.ask (sym c.in-Ask.is ∙ c.kind_of.ensures) c.if-e-sheet.true)
 
 pub overflow_add-result : goal.overflow_add-result
 overflow_add-result c = omega (arith, c.requires)
@@ -60,14 +55,14 @@ overflow_add-result c = omega (arith, c.requires)
 pub returns-in-Ask : goal.returns-in-Ask
 returns-in-Ask c = let a = c.args in
     sym (c.loop-at.invariant.3
-    ∙ says-more a.nodes a.d c.loop-at.m c.loop-at.k (sheet-of (goal.at.returns-in-Ask c).After-cut-line) c.loop-at.at (line_of (goal.at.returns-in-Ask c).After-cut-line) (line-is (goal.at.returns-in-Ask c).After-cut-line) (omega arith) (omega arith)
-    c.ask-1.given.0.0 (sym c.ask-1.given.1 ∙ c.kind_of.ensures) c.if-e-sheet.false)
+    ∙ says-more a.nodes a.d c.loop-at.m c.loop-at.k c.args.sheet.now c.loop-at.at c.cut-line.result.now (line-is (goal.at.returns-in-Ask c).After-cut-line) (omega arith) (omega arith)
+    c.in-Ask.ask (sym c.in-Ask.is ∙ c.kind_of.ensures) c.if-e-sheet.false)
 
 pub returns-in-Neither : goal.returns-in-Neither
 returns-in-Neither c = let a = c.args in
     sym (c.loop-at.invariant.3
-    ∙ says-neither a.nodes a.d c.loop-at.m c.loop-at.k (sheet-of (goal.at.returns-in-Neither c).After-cut-line) c.loop-at.at (line_of (goal.at.returns-in-Neither c).After-cut-line) (line-is (goal.at.returns-in-Neither c).After-cut-line) (omega arith) (omega arith)
-    (sym c.enum_told-in-Neither-1.given.1 ∙ c.kind_of.ensures))
+    ∙ says-neither a.nodes a.d c.loop-at.m c.loop-at.k c.args.sheet.now c.loop-at.at c.cut-line.result.now (line-is (goal.at.returns-in-Neither c).After-cut-line) (omega arith) (omega arith)
+    (sym c.in-Neither.is ∙ c.kind_of.ensures))
 
 pub returns : goal.returns
 returns c = sym (c.loop-at.invariant.3 ∙ ap form_of (lines_none _ _ _ _ _ _ c.loop-at-test.false))

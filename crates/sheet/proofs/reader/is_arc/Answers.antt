@@ -20,8 +20,8 @@ slice_bounds-arc_line-end c = sym (lent-words c.args.d c.requires)
 
 pub returns-in-Good : goal.returns-in-Good
 returns-in-Good c = let w = c.arc_line in
-    sym (ap is_good (told-good _ _ _ _ _ w.ensures.value (lent-words c.args.d c.requires) c.enum_told-1.given.1))
+    sym (ap is_good (told-good _ _ _ _ _ w.ensures.value (lent-words c.args.d c.requires) c.in-Good.is))
 
 pub returns-in-Bad : goal.returns-in-Bad
 returns-in-Bad c = let w = c.arc_line in
-    sym (ap is_good (told-bad _ _ _ _ _ w.ensures.value (lent-words c.args.d c.requires) _ c.enum_told-in-Bad-1.given.1))
+    sym (ap is_good (told-bad _ _ _ _ _ w.ensures.value (lent-words c.args.d c.requires) _ c.in-Bad.is))

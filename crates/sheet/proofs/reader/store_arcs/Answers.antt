@@ -14,20 +14,21 @@ use Rattle.sheet.specs.Reader.{words_of}
 use Rattle.sheet.proofs.LineKinds.{filled}
 use Rattle.sheet.proofs.Stores.{asked_of, form-sheetable, Going, Starts, starts, Steps, steps, stored, mid-length, going_end}
 use Rattle.sheet.proofs.reader.store_arcs.Goals as goal
+use Rattle.sheet.proofs.reader.store_arcs.Goals.{After-cut-first, After-cut-line, At-loop-i}
 
 -- the first line, and the form
-module _ (c : goal.After-struct_known-1) where
+module _ (c : After-cut-first) where
   first : Starts c.args.sheet.now c.args.form c.cut-first.result.now
   first = starts c.args.sheet.now c.args.form c.cut-first.result.now c.cut-first.ensures c.requires.0
 
   form : Sheetable c.args.form.nodes c.args.form.criteria c.args.form.arcs (words_of (sheet_of c.args.sheet.now)) (asked_of (sheet_of c.args.sheet.now))
   form = form-sheetable c.args.sheet.now c.args.form c.requires.0
 
-kept : (c : goal.At-loop-i) → length c.loop-i.arcs ≡ length c.args.arcs.now
+kept : (c : At-loop-i) → length c.loop-i.arcs ≡ length c.args.arcs.now
 kept c = ap length c.loop-i.invariant.3 ∙ length-write c.args.arcs.now 0 (take c.loop-i.p (words_of (sheet_of c.args.sheet.now)))
 
 -- the line of one arc
-here : (c : goal.After-cut-line)
+here : (c : After-cut-line)
     → Steps c.args.sheet.now c.args.form.arcs
     c.loop-i.at c.loop-i.p c.loop-i.i
     (c.args.form.criteria + 2) c.cut-line.result.now
@@ -40,13 +41,13 @@ here c =
     (omega arith) (omega arith) (omega arith) c.loop-i.invariant.4
 
 pub overflow_add-n : goal.overflow_add-n
-overflow_add-n c = omega (arith, (form (goal.at.overflow_add-n c).After-struct_known-1).at_most)
+overflow_add-n c = omega (arith, (form (goal.at.overflow_add-n c).After-cut-first).at_most)
 
 pub overflow_add-at : goal.overflow_add-at
-overflow_add-at c = omega (arith, (first (goal.at.overflow_add-at c).After-struct_known-1).room)
+overflow_add-at c = omega (arith, (first (goal.at.overflow_add-at c).After-cut-first).room)
 
 pub loop-i-init : goal.loop-i-init
-loop-i-init c = (omega arith, omega (arith, (first (goal.at.loop-i-init c).After-struct_known-1).room), omega arith, sym (write-none _ 0), (first (goal.at.loop-i-init c).After-struct_known-1).going)
+loop-i-init c = (omega arith, omega (arith, (first (goal.at.loop-i-init c).After-cut-first).room), omega arith, sym (write-none _ 0), (first (goal.at.loop-i-init c).After-cut-first).going)
 
 pub overflow_add-e : goal.overflow_add-e
 overflow_add-e c = omega (arith, (here (goal.at.overflow_add-e c).After-cut-line).ranges)

@@ -48,7 +48,7 @@ loop-i-preserved c = let a = c.args in
     let q = c.put_arc-a in (
       omega arith,
       omega (arith, c.loop-i.invariant.1, add-mul c.loop-i.i 1 a.w, one-mul a.w),
-      omega (arith, c.loop-i.invariant.2, q.auto.0),
+      omega (arith, c.loop-i.invariant.2, q.auto.sheet),
       omega (arith, q.ensures.value, c.loop-i.invariant.3, arc-ends a.w c.loop-i.i c.loop-i.p a.at c.loop-i.a a.arcs.now c.loop-i.invariant.1),
       arc-put a.w c.loop-i.i c.loop-i.p a.at c.loop-i.a a.arcs.now c.loop-i.invariant.1 a.sheet.now c.loop-i.sheet q.new.sheet c.loop-i.invariant.3 c.loop-i.invariant.4 q.ensures.sheet_after,
     )

@@ -10,15 +10,16 @@ use Rattle.sheet.specs.declared.Writing.TheVariants.{Bytes}
 use Rattle.sheet.specs.Writer.{writing_said, numbers_of, Ranged}
 use Rattle.sheet.proofs.Writings.{writes-few, writes-many, writes-odd, writes-crowded, writes-large, writes-long, writes_short, writes-sheet}
 use Rattle.sheet.proofs.writer.write.Goals as goal
+use Rattle.sheet.proofs.writer.write.Goals.{Else-arcs-w-gt512, Else-over}
 
 -- rows 3 and 7 do not hold
-module _ (c : goal.Else-arcs-w-gt512) where
+module _ (c : Else-arcs-w-gt512) where
   ranged : Ranged c.args.request.criteria c.args.arcs.now
   ranged =
       record { at_least = c.if-request-lt2.false; at_most = c.if-request-gt3.false; multiple = c.if-arcs-w-ne0.false; arcs = c.if-arcs-w-gt512.false }
 
 -- nor does row 11
-not-large : (c : goal.Else-over) → any_over (numbers_of c.args.request c.args.arcs.now) ≡ false
+not-large : (c : Else-over) → any_over (numbers_of c.args.request c.args.arcs.now) ≡ false
 not-large c = sym c.over.ensures ∙ c.if-over.false
 
 pub returns-then-request-lt2 : goal.returns-then-request-lt2
