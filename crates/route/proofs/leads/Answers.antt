@@ -66,7 +66,7 @@ module _ (c : After-arc_holds) where
   link-by b = cond b (link.Came (c.word-step.result - 3) c.word-tail.result c.word-from.result) link.Fails
 
   -- is where the label leads
-  link-is : link-by c.arc_holds.result ≡ link_of (asked c.args.q c.args.arcs.now) (c.args.labels.now c) (c).args.i (c).args.v (c).args.c
+  link-is : link-by c.arc_holds.result ≡ link_of (asked c.args.q c.args.arcs.now) c.args.labels.now c.args.i c.args.v c.args.c
   unfolding step from tail arc
   link-is =
       let b = in

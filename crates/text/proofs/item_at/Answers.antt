@@ -30,8 +30,8 @@ module _ (c : After-number_of) where
   field_is = c.cut-field.ensures ∙ ap (before (sep-of c)) (rest-is (line_of c) (at_of c + 1))
 
   reads_so : item (sep-of c) (at_of c) (drop (at_of c) (line_of c))
-      ≡ placed (at_of c) (length c.cut-field.result.now) c.number_of_lem.result
-  reads_so = item-read _ _ _ _ _ (omega arith) c.if-line-at-2.false field_is c.number_of_lem.ensures
+      ≡ placed (at_of c) (length c.cut-field.result.now) c.number_of.result
+  reads_so = item-read _ _ _ _ _ (omega arith) c.if-line-at-2.false field_is c.number_of.ensures
 
 pub returns-then-line-at : goal.returns-then-line-at
 returns-then-line-at c = sym (item-end _ _ _ c.if-line-at.true)
@@ -40,7 +40,7 @@ pub returns-then-line-at-2 : goal.returns-then-line-at-2
 returns-then-line-at-2 c = sym (item-other _ _ _ (omega arith) c.if-line-at-2.true)
 
 pub overflow_add-result-in-Fault : goal.overflow_add-result-in-Fault
-overflow_add-result-in-Fault c = let e : number c.cut-field.result.now ≡ Fault c.in-Fault.i = sym c.number_of_lem.ensures ∙ c.in-Fault.is in
+overflow_add-result-in-Fault c = let e : number c.cut-field.result.now ≡ Fault c.in-Fault.i = sym c.number_of.ensures ∙ c.in-Fault.is in
     omega (arith, number-fault c.cut-field.result.now c.in-Fault.i e, ap length (field_is (goal.at.overflow_add-result-in-Fault c).After-number_of), before-length (sep-of (goal.at.overflow_add-result-in-Fault c).After-number_of) (drop (at_of (goal.at.overflow_add-result-in-Fault c).After-number_of + 1) (line_of (goal.at.overflow_add-result-in-Fault c).After-number_of)), length-drop (at_of (goal.at.overflow_add-result-in-Fault c).After-number_of + 1) (line_of (goal.at.overflow_add-result-in-Fault c).After-number_of))
 
 pub returns-in-Value : goal.returns-in-Value

@@ -30,7 +30,7 @@ pub bounds-out-b : goal.bounds-out-b
 bounds-out-b c = omega (arith, room (goal.at.bounds-out-b c).After-put_numbers-b, kept (goal.at.bounds-out-b c).After-put_numbers-b)
 
 pub overflow_add-result : goal.overflow_add-result
-overflow_add-result c = omega (arith, room (goal.at.overflow_add-result c).After-put_numbers-b, c.good)
+overflow_add-result c = omega (arith, room (goal.at.overflow_add-result c).After-put_numbers-b)
 
 pub shape_of-out : goal.shape_of-out
 shape_of-out c = simp length-set (kept (goal.at.shape_of-out c).After-put_numbers-b)

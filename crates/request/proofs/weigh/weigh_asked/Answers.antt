@@ -30,7 +30,7 @@ module _ (c : In_default-ratios) where
 
 -- and how many words the arcs have
 module _ (c : In_default-words) where
-  words-clear : weigh (arc_words_row (length (c).args.arcs.now) ((c.args.q c).criteria + 2) ∷ []) ≡ clear
+  words-clear : weigh (arc_words_row (length c.args.arcs.now) (c.args.q.criteria + 2) ∷ []) ≡ clear
   words-clear = was-clear c.weigh_arc_words-words.result _ c.in_default-words.is c.weigh_arc_words-words.ensures
 
 pub returns-in-Refused : goal.returns-in-Refused

@@ -1,0 +1,5 @@
+-- `put_number` calls itself of a smaller number: the measure is the number. Assumes nothing.
+use Rattle.text.proofs.+put_number.Given as goal
+
+abbrev pub decreases-put_number : goal.decreases-put_number
+decreases-put_number l = l.n
