@@ -98,7 +98,7 @@ pub record Demand3 (q : Request) (arcs buffer labels : List ℕ) (t : ℕ) : Typ
   pub back : (i v c : ℕ) → i ≤ q.hops → v < q.nodes → c < cells (asked q arcs) → T (filled (asked q arcs) (label_in (asked q arcs) (labels_after (asked q arcs) (length buffer) labels) i v c))
       → WalkIn (asked q arcs) (labels_after (asked q arcs) (length buffer) labels) i v c
   -- and so the read-back answers, into any route buffer of K words or more
-  pub reads-back : (route : List ℕ) (i v c : ℕ) → q.hops ≤ length route → i ≤ q.hops → v < q.nodes → c < cells (asked q arcs)
+  pub reads_back : (route : List ℕ) (i v c : ℕ) → q.hops ≤ length route → i ≤ q.hops → v < q.nodes → c < cells (asked q arcs)
       → T (filled (asked q arcs) (label_in (asked q arcs) (labels_after (asked q arcs) (length buffer) labels) i v c))
       → (ws : List ℕ) × (ending_of (asked q arcs) (labels_after (asked q arcs) (length buffer) labels) (length route) i v c ≡ ending.Route (length ws))
       × RouteRead (asked q arcs) (labels_after (asked q arcs) (length buffer) labels) route i v c (length ws) ws

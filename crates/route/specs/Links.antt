@@ -27,5 +27,5 @@ trail_of (broken i) = trail.Broke i
 pub record Within (nodes criteria cells i : ℕ) : Type 0 where
   pub nodes_few : nodes ≤ 64
   pub criteria_few : criteria ≤ 3
-  pub cells-few : cells ≤ 1048576
+  pub cells_few : cells ≤ 1048576
   pub layers_few : i ≤ 63

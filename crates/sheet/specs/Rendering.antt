@@ -19,7 +19,7 @@ pub record Sheetable (n d m : ℕ) (words asks : List ℕ) : Type 0 where
   pub at_least : 2 ≤ d
   pub at_most : d ≤ 3
   pub arcs : m ≤ 512
-  pub arc-words : length words ≡ m * (d + 2)
+  pub arc_words : length words ≡ m * (d + 2)
   pub asked : length asks ≡ d * 2
   pub nodes_small : n ≤ largest
   pub words_small : AtMost largest words

@@ -34,7 +34,7 @@ pub record Extends (s : Frame) (labels arcs buffer : List ℕ) (at to a c : ℕ)
   pub inside : to + s.span ≤ length labels
   pub in_arcs : a * s.w + s.w ≤ length arcs
   pub arcs_few : a < 512
-  pub cells-few : c ≤ 1048576
+  pub cells_few : c ≤ 1048576
   pub volume_is : volume (λ i. get_or s.counts i 0) (s.d - 1) ≡ s.cells
   pub sums : (k : ℕ) → k < s.d → get_or (part labels at s.w) k 0 + get_or (part arcs (a * s.w) s.w) (k + 2) 0 ≤ 63000000
   pub seeks : Seeks s.counts (s.d - 1) buffer (extended s.d (part labels at s.w) (part arcs (a * s.w) s.w) a c) hint
