@@ -19,10 +19,6 @@ use Rattle.sheet.proofs.reader.ask_line.Goals as goal
 lent-words : (d : ℕ) → d ≤ 3 → length (take {A = ℕ} (d * 2) (0 ∷ 0 ∷ 0 ∷ 0 ∷ 0 ∷ 1 ∷ [])) ≡ d * 2
 lent-words d h = length-take-le {A = ℕ} (d * 2) (0 ∷ 0 ∷ 0 ∷ 0 ∷ 0 ∷ 1 ∷ []) (omega arith)
 
--- LOST slice-aggregate-word-line-2
-slice-aggregate-word-line-2 : tie.Need-slice-aggregate-word-line-2
-slice-aggregate-word-line-2 c = sym (lent-words c.before.before.before.args.d c.before.before.before.requires.1)
-
 pub returns-in-Good : goal.returns-in-Good
 returns-in-Good c = let w = c.word_line in
     let d = c.args.d in

@@ -19,28 +19,24 @@ use Rattle.sheet.proofs.reader.check.Goals.{After-word_line}
 -- the sheet by what was read of its first line
 module _ (c : After-word_line) where
   first-is : sheet_of c.args.sheet.now ≡ after_first (tracks_line c.cut-line.result.now) (drop (length c.cut-line.result.now + 1) c.args.sheet.now)
-  first-is = sheet-line line.args.sheet.now c.cut-line.ensures (omega arith)
+  first-is = sheet-line c.args.sheet.now c.cut-line.result.now c.cut-line.ensures (omega arith)
 
   first-bad : (j : ℕ) → c.word_line.result ≡ Bad j → sheet_of c.args.sheet.now ≡ broken 1
-  first-bad j e = first-is ∙ ap (λ (g : Got). after_first g (drop (length c.cut-line.result.now + 1) c.args.sheet.now)) (told-bad tracks_word 2 2 _.cut.result.now c.word_line.ensures.value refl j e)
+  first-bad j e = first-is ∙ ap (λ (g : Got). after_first g (drop (length c.cut-line.result.now + 1) c.args.sheet.now)) (told-bad tracks_word 2 2 c.cut-line.result.now _ c.word_line.ensures.value refl j e)
 
   two-are : c.word_line.result ≡ Good → tracks_line c.cut-line.result.now ≡ good c.word_line.new.out
   two-are e =
-      let g = told-good tracks_word 2 2 _.cut.result.now c.word_line.ensures.value refl e in
-      g ∙ ap good (sym (filled tracks_word 2 c.cut-line.result.now (taken_of (tracks_line c.cut-line.result.now)) (0 ∷ 0 ∷ []) refl.word_line.new.1.1.1.0 g c.word_line.ensures.out_after))
+      let g = told-good tracks_word 2 2 c.cut-line.result.now _ c.word_line.ensures.value refl e in
+      g ∙ ap good (sym (filled tracks_word 2 c.cut-line.result.now (taken_of (tracks_line c.cut-line.result.now)) (0 ∷ 0 ∷ []) c.word_line.new.out refl g c.word_line.ensures.out_after))
 
   first_good : c.word_line.result ≡ Good → sheet_of c.args.sheet.now ≡ after_first (good c.word_line.new.out) (drop (length c.cut-line.result.now + 1) c.args.sheet.now)
   first_good e = first-is ∙ ap (λ (g : Got). after_first g (drop (length c.cut-line.result.now + 1) c.args.sheet.now)) (two-are e)
 
   two-long : c.word_line.result ≡ Good → length c.word_line.new.out ≡ 2
-  two-long e = (line_of-was tab tracks_word 2 line c.word_line.new.out (two-are e)).1
+  two-long e = (line_of-was tab tracks_word 2 c.cut-line.result.now c.word_line.new.out (two-are e)).1
 
 pub returns-then-sheet-e : goal.returns-then-sheet-e
 returns-then-sheet-e c = sym (ap form_of (sheet-loose _ _ c.cut-line.ensures c.if-sheet-e.true))
-
--- LOST slice-aggregate-word-line-2
-slice-aggregate-word-line-2 : tie.Need-slice-aggregate-word-line-2
-slice-aggregate-word-line-2 c = search rules
 
 pub returns-then-v-eq2 : goal.returns-then-v-eq2
 returns-then-v-eq2 c = let e = c.in-Good.is in

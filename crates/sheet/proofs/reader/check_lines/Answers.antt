@@ -16,7 +16,7 @@ use Rattle.sheet.proofs.reader.check_lines.Goals.{After-cut-line}
 -- the line that was cut at `at`
 module _ (c : After-cut-line) where
   line-is : c.cut-line.result.now ≡ before lf (drop c.loop-at.at c.args.sheet.now)
-  line-is = c.cut-line.ensures ∙ ap (before lf) (rest-is sheet-of c.loop-at.at)
+  line-is = c.cut-line.ensures ∙ ap (before lf) (rest-is c.args.sheet.now c.loop-at.at)
 
   line-fits : c.loop-at.at + length c.cut-line.result.now ≤ length c.args.sheet.now
   line-fits = omega (arith, ap length line-is, before-length lf (drop c.loop-at.at c.args.sheet.now), length-drop c.loop-at.at c.args.sheet.now)

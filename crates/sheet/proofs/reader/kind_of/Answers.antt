@@ -9,11 +9,12 @@ use Rattle.sheet.specs.Grammar.{arc_line}
 use Rattle.sheet.specs.Inside.{is_good}
 use Rattle.sheet.proofs.LineKinds.{kind-arc-told, kind-else-told}
 use Rattle.sheet.proofs.reader.kind_of.Goals as goal
-use Rattle.sheet.proofs.reader.kind_of.Goals.{Joined-m-lt512}
+use Rattle.sheet.proofs.reader.kind_of.Goals.{Joined-m-lt512, then-m-lt512+else-is_arc, else-m-lt512}
 
 -- no arc, where there may be one more
 not-arc : (c : Joined-m-lt512) → c.args.m < 512 → is_good (arc_line c.args.d c.args.line.now) ≡ false
-not-arc c h = ⊎_elim (λ w. sym w.1.ensures ∙ w.2.left) (λ w. absurd (omega (arith, w.left))) c.if-m-lt512.branch
+not-arc c h = 
+    elim c.if-m-lt512.branch [ then-m-lt512+else-is_arc w ↦ sym w.is_arc.ensures ∙ w.if-is_arc.false | else-m-lt512 w ↦ absurd (omega (arith, w.if-m-lt512.false)) ]
 
 pub returns-then-is_arc : goal.returns-then-is_arc
 returns-then-is_arc c = kind-arc-told _ _ _ c.if-m-lt512.true (sym c.if-is_arc.true ∙ c.is_arc.ensures)

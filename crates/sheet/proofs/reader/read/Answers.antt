@@ -34,7 +34,8 @@ module _ (c : In-Whole) where
       mul-le-mul can_be.arcs w
 
 pub returns-then-sheet-gt8192 : goal.returns-then-sheet-gt8192
-returns-then-sheet-gt8192 c = let r = reads-long c.args.sheet.now c.args.arcs.now c.if-sheet-gt8192.true in let whole = rw c.refusal.ensures (r.says, (r.request, r.arcs)) in record { outcome_value = whole.0; request_value = whole.1.0; arcs_after = whole.1.1 }
+returns-then-sheet-gt8192 c = let r = reads-long c.args.sheet.now c.args.arcs.now c.if-sheet-gt8192.true in
+    record { outcome_value = rw c.refusal.ensures r.says; request_value = rw c.refusal.ensures r.request; arcs_after = r.arcs }
 
 pub overflow_add-n : goal.overflow_add-n
 overflow_add-n c = omega (arith, (can_be (goal.at.overflow_add-n c).In-Whole).at_most)
@@ -43,7 +44,8 @@ pub overflow_mul-words : goal.overflow_mul-words
 overflow_mul-words c = omega (arith, few (goal.at.overflow_mul-words c).In-Whole)
 
 pub returns-then-arcs-words : goal.returns-then-arcs-words
-returns-then-arcs-words c = let r = reads_short c.args.sheet.now c.args.arcs.now (omega arith) c.in-Whole.form (is_whole (goal.at.returns-then-arcs-words c).In-Whole) (omega (arith, (can_be (goal.at.returns-then-arcs-words c).In-Whole).arc_words, c.if-arcs-words.true)) in let whole = rw c.refusal-then-arcs-words.ensures (r.says, (r.request, r.arcs)) in record { outcome_value = whole.0; request_value = whole.1.0; arcs_after = whole.1.1 }
+returns-then-arcs-words c = let r = reads_short c.args.sheet.now c.args.arcs.now (omega arith) c.in-Whole.form (is_whole (goal.at.returns-then-arcs-words c).In-Whole) (omega (arith, (can_be (goal.at.returns-then-arcs-words c).In-Whole).arc_words, c.if-arcs-words.true)) in
+    record { outcome_value = rw c.refusal-then-arcs-words.ensures r.says; request_value = rw c.refusal-then-arcs-words.ensures r.request; arcs_after = r.arcs }
 
 pub store_arcs-requires : goal.store_arcs-requires
 store_arcs-requires c = (is_whole (goal.at.store_arcs-requires c).In-Whole, omega (arith, (can_be (goal.at.store_arcs-requires c).In-Whole).arc_words, c.if-arcs-words.false))
@@ -56,7 +58,8 @@ request_of-requires c = omega (arith, (can_be (goal.at.request_of-requires c).In
 
 pub returns-in-Broken : goal.returns-in-Broken
 returns-in-Broken c = let e = sym c.check.ensures ∙ c.in-Broken.is in
-    let r = reads-broken c.args.sheet.now c.args.arcs.now (omega arith) _ e in let whole = rw c.refusal-in-Broken.ensures (r.says, (r.request, r.arcs)) in record { outcome_value = whole.0; request_value = whole.1.0; arcs_after = whole.1.1 }
+    let r = reads-broken c.args.sheet.now c.args.arcs.now (omega arith) _ e in
+    record { outcome_value = rw c.refusal-in-Broken.ensures r.says; request_value = rw c.refusal-in-Broken.ensures r.request; arcs_after = r.arcs }
 
 pub returns-else-arcs-words : goal.returns-else-arcs-words
 returns-else-arcs-words c = let a = c.args.arcs.now in

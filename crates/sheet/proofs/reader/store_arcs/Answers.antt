@@ -36,7 +36,7 @@ here c =
     let a = c.args in
     let s = a.sheet.now in
     steps s a.form.arcs c.loop-i.at c.loop-i.p c.loop-i.i (a.form.criteria + 2) c.cut-line.result.now
-    (ap (λ (d : ℕ). d + 2) (sym (first c).criteria))
+    (ap (λ (d : ℕ). d + 2) (sym (starts s a.form c.cut-first.result.now c.cut-first.ensures c.requires.0).criteria))
     (c.cut-line.ensures ∙ ap (before lf) (rest-is s c.loop-i.at))
     (omega arith) (omega arith) (omega arith) c.loop-i.invariant.4
 
@@ -50,13 +50,13 @@ pub loop-i-init : goal.loop-i-init
 loop-i-init c = (omega arith, omega (arith, (first (goal.at.loop-i-init c).After-cut-first).room), omega arith, sym (write-none _ 0), (first (goal.at.loop-i-init c).After-cut-first).going)
 
 pub overflow_add-e : goal.overflow_add-e
-overflow_add-e c = omega (arith, (here (goal.at.overflow_add-e c).After-cut-line).ranges)
+overflow_add-e c = omega (arith, (here (goal.at.overflow_add-e c).After-cut-line).fits)
 
 pub offset_bounds-arcs-p : goal.offset_bounds-arcs-p
-offset_bounds-arcs-p c = omega (arith, (here (goal.at.offset_bounds-arcs-p c).After-cut-line).ranges)
+offset_bounds-arcs-p c = omega (arith, (here (goal.at.offset_bounds-arcs-p c).After-cut-line).fits)
 
 pub slice_bounds-arc_line-end : goal.slice_bounds-arc_line-end
-slice_bounds-arc_line-end c = omega (arith, (here (goal.at.slice_bounds-arc_line-end c).After-cut-line).ranges, kept (goal.at.slice_bounds-arc_line-end c).At-loop-i)
+slice_bounds-arc_line-end c = omega (arith, (here (goal.at.slice_bounds-arc_line-end c).After-cut-line).fits, kept (goal.at.slice_bounds-arc_line-end c).At-loop-i)
 
 pub overflow_add-at-in-loop-i : goal.overflow_add-at-in-loop-i
 overflow_add-at-in-loop-i c = omega (arith, (here (goal.at.overflow_add-at-in-loop-i c).After-cut-line).room)

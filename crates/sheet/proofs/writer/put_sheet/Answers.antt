@@ -22,24 +22,13 @@ module _ (c : After-put_line-a) where
   ends = c.put_line-a.ensures.value ∙ zero-add (length (front c.args.request c.args.arcs.now))
 
   long : length (written c.args.request c.args.arcs.now) ≡ length (front c.args.request c.args.arcs.now) + length (middle c.args.request c.args.arcs.now) + length (back c.args.request c.args.arcs.now)
-  long = written-long c.args.request words_of
+  long = written-long c.args.request c.args.arcs.now
 
 pub put_line-a-requires : goal.put_line-a-requires
 put_line-a-requires c = omega (arith, written-long c.args.request c.args.arcs.now, c.requires.arcs_in_bounds)
 
 pub put_arcs-b-requires : goal.put_arcs-b-requires
 put_arcs-b-requires c = (whole-arcs c.args.request c.args.arcs.now c.requires.ranged, omega (arith, long (goal.at.put_arcs-b-requires c).After-put_line-a, ends (goal.at.put_arcs-b-requires c).After-put_line-a, c.put_line-a.auto.out, c.requires.arcs_in_bounds))
-
--- LOST slice-aggregate-put-line-3
-slice-aggregate-put-line-3 : tie.Need-slice-aggregate-put-line-3
-slice-aggregate-put-line-3 c = search rules
-
--- LOST slice-aggregate-put-line-4
-slice-aggregate-put-line-4 : tie.Need-slice-aggregate-put-line-4
-slice-aggregate-put-line-4 c =
-    let a = c.before.before.before in
-    let s = start_of a.before.before.before.before.before.before.before in
-    asks-lent s.args.request _ a.asks.ensures s.pre.0.at_most
 
 pub put_line-requires : goal.put_line-requires
 put_line-requires c = let q = c.put_arcs-b in

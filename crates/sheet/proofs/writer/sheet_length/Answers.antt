@@ -8,10 +8,10 @@ use Rattle.text.specs.Line.{parted_width}
 use Rattle.sheet.proofs.Lengths.{words-few, written-length}
 use Rattle.sheet.proofs.Puts.{asks-lent, asks-are}
 use Rattle.sheet.proofs.writer.sheet_length.Goals as goal
-use Rattle.sheet.proofs.writer.sheet_length.Goals.{After-widths}
+use Rattle.sheet.proofs.writer.sheet_length.Goals.{After-widths-3}
 
 -- all that is added up
-module _ (c : After-widths) where
+module _ (c : After-widths-3) where
   asks-few : c.widths-3.result ≤ 66
   asks-few =
       let r = c.args.request in
@@ -37,9 +37,9 @@ pub widths-requires-3 : goal.widths-requires-3
 widths-requires-3 c = omega (arith, asks-lent c.args.request _ c.asks-v.ensures c.requires.at_most, c.requires.at_most)
 
 pub overflow_add-result-2 : goal.overflow_add-result-2
-overflow_add-result-2 c = omega (arith, asks-few (goal.at.overflow_add-result-2 c).After-widths, words-wide (goal.at.overflow_add-result-2 c).After-widths, c.widths.ensures.upper_bound, c.requires.arcs)
+overflow_add-result-2 c = omega (arith, asks-few (goal.at.overflow_add-result-2 c).After-widths-3, words-wide (goal.at.overflow_add-result-2 c).After-widths-3, c.widths.ensures.upper_bound, c.requires.arcs)
 
 pub returns : goal.returns
 returns c = let r = c.args.request in
     let a = ap parted_width (asks-are r _ c.asks-v.ensures) in
-    let w = c.widths.ensures in record { value = omega (arith, written-length r c.args.arcs.now c.requires, c.widths-3.ensures.value, c.widths-2.ensures.value, w.value, a); upper_bound = omega (arith, asks-few (goal.at.returns c).After-widths, words-wide (goal.at.returns c).After-widths, w.upper_bound, c.requires.arcs) }
+    let w = c.widths.ensures in record { value = omega (arith, written-length r c.args.arcs.now c.requires, c.widths-3.ensures.value, c.widths-2.ensures.value, w.value, a); upper_bound = omega (arith, asks-few (goal.at.returns c).After-widths-3, words-wide (goal.at.returns c).After-widths-3, w.upper_bound, c.requires.arcs) }
