@@ -6,6 +6,7 @@ use native.Mathlib.Omega.{arith}
 use lib.ListN.{length, get_or, replicate}
 use contract.Lifetimes.{Lfts}
 use denote.Ref.{Bor}
+use denote.MutBor.{MutBor}
 use Rattle.words.specs.Loops.{up_to, total, any}
 use Rattle.words.specs.Pieces.{part, write, at, put, join}
 use Rattle.words.specs.Radix.{volume, radix}
@@ -61,9 +62,10 @@ computed = (refl, refl, refl, refl, refl, refl)
 pub called : (k : ℕ) → Lfts 3 → Call k
 called k κs =
     let r : List ℕ → Bor (List ℕ) = λ xs. record { ref_ptr = (0, 0); now = xs } in
+    let m : List ℕ → MutBor (List ℕ) = λ xs. record { ref_ptr = (0, 0); ghost_name = 0; now = xs } in
     record {
       lifetimes = κs;
-      args = (example k, (r tracks, (r (replicate 5 0), (r (replicate 192 0), tt))));
+      args = (example k, (r tracks, (m (replicate 5 0), (m (replicate 192 0), tt))));
       request = refl;
       arcs = refl;
       ladders = refl;

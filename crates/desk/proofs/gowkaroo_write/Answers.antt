@@ -14,7 +14,9 @@ pack_refusal-requires c = let a = c.args in
 
 pub returns-in-Refused : goal.returns-in-Refused
 returns-in-Refused c = let a = c.args in
-    let w = rw c.request_from-from.ensures at (c.write-writing.ensures.result_value, c.write-writing.ensures.sheet_after) in record { value = c.pack_refusal.ensures ∙ ap packed (sym (ap writing_said c.in-Refused.is) ∙ w.0); sheet_after = w.1 }
+    let said = rw c.request_from-from.ensures at c.write-writing.ensures.result_value in
+    record { value = c.pack_refusal.ensures ∙ ap packed (sym (ap writing_said c.in-Refused.is) ∙ said); sheet_after = rw c.request_from-from.ensures at c.write-writing.ensures.sheet_after }
 
 pub returns-in-Bytes : goal.returns-in-Bytes
-returns-in-Bytes c = let w = rw c.request_from-from.ensures at (c.write-writing.ensures.result_value, c.write-writing.ensures.sheet_after) in record { value = c.pack.ensures ∙ count-packed _ _ (sym (ap writing_said c.in-Bytes.is) ∙ w.0); sheet_after = w.1 }
+returns-in-Bytes c = let said = rw c.request_from-from.ensures at c.write-writing.ensures.result_value in
+    record { value = c.pack.ensures ∙ count-packed _ _ (sym (ap writing_said c.in-Bytes.is) ∙ said); sheet_after = rw c.request_from-from.ensures at c.write-writing.ensures.sheet_after }
