@@ -1,11 +1,9 @@
 -- `add_costs`. The loop's invariant: the first k words are the sums, the others as they were. Assumes nothing.
-use mathlib.Core.Path.{◌≡◌, refl, ap, ◌∙◌}
-use Prim.Native.Nat.{ℕ, ◌-◌, ◌≤◌, zero-le}
+use mathlib.Core.Path.{◌≡◌}
+use Prim.Native.Nat.{◌-◌, ◌≤◌}
 use mathlib.Core.List.{◌++◌}
-use lib.ListN.{length, set, take, drop, length-set}
-use Rattle.labels.proofs.Candidates.{sums, one-sum, step-and-from}
-use borrow.Author.Rules.{rules}
-use native.Mathlib.Omega.{arith}
+use lib.ListN.{length, take, drop}
+use Rattle.labels.proofs.Candidates.{sums}
 use Rattle.labels.proofs.add_costs.Given as goal
 
 abbrev pub invariant-loop-k : goal.invariant-loop-k

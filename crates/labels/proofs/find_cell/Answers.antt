@@ -1,12 +1,11 @@
 -- `find_cell`. The loop's invariant: the criteria before j are found (`Upto`). Assumes nothing.
 use mathlib.Core.Path.{◌≡◌, sym, ap, ◌∙◌, subst}
-use Prim.Native.Nat.{ℕ, ◌-◌}
+use Prim.Native.Nat.{ℕ}
 use mathlib.Core.List.{List}
 use lib.ListN.{get_or}
 use Rattle.words.specs.Radix.{radix}
 use Rattle.fences.specs.Answer.{Bracket}
-use Rattle.labels.proofs.Finding.{Upto, none_yet, Here, here, lent-ladder, lent_length, found_lt, one_more}
-use borrow.Author.Rules.{rules}
+use Rattle.labels.proofs.Finding.{none_yet, Here, here, lent-ladder, lent_length, found_lt, one_more}
 use native.Mathlib.Omega.{arith}
 use Rattle.labels.proofs.find_cell.Goals as goal
 use Rattle.labels.proofs.find_cell.Goals.{In-loop-j}
@@ -25,12 +24,6 @@ module _ (b : In-loop-j) where
 
 pub loop-j-init : goal.loop-j-init
 loop-j-init c = none_yet c.args.counts c.args.graded c.args.ladders.now c.args.cand.now c.args.places.now c.requires
-
-pub offset_bounds-counts-j : goal.offset_bounds-counts-j
-offset_bounds-counts-j c = omega (arith, known (goal.at.offset_bounds-counts-j c).In-loop-j)
-
-pub bounds-counts-j : goal.bounds-counts-j
-bounds-counts-j c = omega (arith, known (goal.at.bounds-counts-j c).In-loop-j)
 
 pub overflow_add-end : goal.overflow_add-end
 overflow_add-end c = omega (arith, known (goal.at.overflow_add-end c).In-loop-j)

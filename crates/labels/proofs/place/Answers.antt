@@ -1,7 +1,6 @@
 -- `place`: the candidate where it wins, else the cell as it was. Assumes nothing.
 use mathlib.Core.Path.{sym, ap, ◌∙◌}
 use mathlib.Core.Bool.{Bool, cond}
-use borrow.Author.Rules.{rules}
 use Rattle.labels.proofs.place.Goals as goal
 
 pub returns-then-wins : goal.returns-then-wins

@@ -1,6 +1,5 @@
 -- `wins`: the cell is empty, or the last costs decide. Assumes nothing.
 use Rattle.labels.proofs.Places.{wins-empty, wins-filled}
-use borrow.Author.Rules.{rules}
 use Rattle.labels.proofs.wins.Goals as goal
 
 pub returns-then-cell-d-eq0 : goal.returns-then-cell-d-eq0
