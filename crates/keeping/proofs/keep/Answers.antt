@@ -1,7 +1,6 @@
 -- `keep`: an empty label leaves the empty one, a filled one is kept. Assumes nothing.
 use mathlib.Core.Path.{sym, ◌∙◌}
 use Rattle.keeping.proofs.Keeping.{step-word, keep-empty, keep-filled}
-use borrow.Author.Rules.{rules}
 use Rattle.keeping.proofs.keep.Goals as goal
 
 pub returns-then-step-ne0 : goal.returns-then-step-ne0

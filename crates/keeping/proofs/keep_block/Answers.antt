@@ -7,8 +7,7 @@ use Rattle.words.specs.Pieces.{part}
 use Rattle.keeping.specs.Kept.{KeptIn}
 use Rattle.keeping.proofs.Notes.{filled-few}
 use Rattle.rounds.proofs.Labels.{block-few}
-use Rattle.keeping.proofs.Blocks.{Cleared, Along, none_kept, clear-lent, along-long, Here, here, place-clear, one_label, all-kept}
-use borrow.Author.Rules.{rules}
+use Rattle.keeping.proofs.Blocks.{Cleared, none_kept, clear-lent, along-long, Here, here, place-clear, one_label, all-kept}
 use native.Mathlib.Omega.{arith}
 use Rattle.keeping.proofs.keep_block.Goals as goal
 use Rattle.keeping.proofs.keep_block.Goals.{At-loop-c, Start}
@@ -24,13 +23,13 @@ module _ (l : At-loop-c) where
   abbrev cleared-words : List ℕ
   cleared-words =
       let a = l.args in
-      take a.base a.labels.now ++ (l.clear.last.0 ++ drop (a.base + a.n * (a.d + 2) - a.base) (drop a.base a.labels.now))
+      take a.base a.labels.now ++ (l.clear.new.part ++ drop (a.base + a.n * (a.d + 2) - a.base) (drop a.base a.labels.now))
 
   cleared : Cleared l.args.labels.now l.args.n l.args.d l.args.prev l.args.base l.requires cleared-words
   cleared =
       let a = l.args in
       let x = l.clear in
-      cleared_by a.labels.now a.n a.d a.prev a.base l.requires x.last.0 x.ensures
+      cleared_by a.labels.now a.n a.d a.prev a.base l.requires x.new.part x.ensures
 
   -- the labels are as many words as they came
   kept : length l.loop-c.labels ≡ length l.args.labels.now

@@ -1,13 +1,8 @@
 -- `keep_costs`. The loop's invariant: k costs are written. Assumes nothing.
-use mathlib.Core.Path.{◌≡◌, refl, sym, ap, ◌∙◌}
-use Prim.Native.Nat.{ℕ, ◌+◌, ◌-◌, ◌≤◌, zero-le}
-use mathlib.Core.List.{List}
-use lib.ListN.{length, set, length-set}
+use mathlib.Core.Path.{◌≡◌}
+use Prim.Native.Nat.{◌-◌, ◌≤◌}
+use lib.ListN.{length}
 use Rattle.words.specs.Pieces.{part, write}
-use Rattle.words.proofs.Writes.{write-part}
-use Rattle.keeping.proofs.Keeping.{one-cost, two-more}
-use borrow.Author.Rules.{rules}
-use native.Mathlib.Omega.{arith}
 use Rattle.keeping.proofs.keep_costs.Given as goal
 
 abbrev pub invariant-loop-k : goal.invariant-loop-k

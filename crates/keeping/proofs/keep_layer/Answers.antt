@@ -1,10 +1,9 @@
 -- `keep_layer`. The loop's invariant: the blocks before v are kept and noted (`Along`). Assumes nothing.
 use mathlib.Core.Path.{◌≡◌}
-use Prim.Native.Nat.{◌-◌, ◌<◌}
+use Prim.Native.Nat.{◌<◌}
 use lib.ListN.{length}
 use Rattle.rounds.proofs.Labels.{block-few}
-use Rattle.keeping.proofs.Layers.{Along, none_kept, along-long, Here, here, can-keep, one_block, all-kept}
-use borrow.Author.Rules.{rules}
+use Rattle.keeping.proofs.Layers.{none_kept, along-long, Here, here, can-keep, one_block, all-kept}
 use native.Mathlib.Omega.{arith}
 use Rattle.keeping.proofs.keep_layer.Goals as goal
 use Rattle.keeping.proofs.keep_layer.Goals.{At-loop-v}

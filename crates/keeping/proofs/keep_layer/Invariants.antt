@@ -1,11 +1,6 @@
 -- `keep_layer`. The loop's invariant: the blocks before v are kept and noted (`Along`). Assumes nothing.
-use mathlib.Core.Path.{◌≡◌}
-use Prim.Native.Nat.{◌-◌, ◌<◌}
-use lib.ListN.{length}
-use Rattle.rounds.proofs.Labels.{block-few}
-use Rattle.keeping.proofs.Layers.{Along, none_kept, along-long, Here, here, can-keep, one_block, all-kept}
-use borrow.Author.Rules.{rules}
-use native.Mathlib.Omega.{arith}
+use Prim.Native.Nat.{◌-◌}
+use Rattle.keeping.proofs.Layers.{Along}
 use Rattle.keeping.proofs.keep_layer.Given as goal
 
 abbrev pub invariant-loop-v : goal.invariant-loop-v

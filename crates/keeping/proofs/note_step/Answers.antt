@@ -1,6 +1,5 @@
 -- `note_step`, case by case: empty, kept, the first that is neither, a later one. Assumes nothing.
 use Rattle.keeping.proofs.Notes.{empty-says, kept-says, first_says, more-says}
-use borrow.Author.Rules.{rules}
 use Rattle.keeping.proofs.note_step.Goals as goal
 
 pub returns-then-step-eq0 : goal.returns-then-step-eq0
