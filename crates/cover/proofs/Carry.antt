@@ -11,7 +11,7 @@ use Rattle.request.specs.Shape.{position, cells, cell}
 use Rattle.request.specs.Accepted.{Regular}
 use Rattle.request.proofs.Cells.{UnderTop, same-cell}
 use Rattle.rounds.specs.Label.{costs, filled, sum, candidate}
-use Rattle.rounds.proofs.Labels.{get_d-sum, zero-costs}
+use Rattle.rounds.proofs.Labels.{get_or-sum, zero-costs}
 use Rattle.rounds.proofs.Ties.{Fair}
 use Rattle.rounds.proofs.Node.{Good, cand}
 use Rattle.rounds.proofs.Start.{cell-zero, under-zero, cells-pos}
@@ -67,7 +67,7 @@ module _ (R : Req) (ok : Regular R) (Low : List ℕ → List ℕ → Type 0) (fa
         full = g.full;
         low = fair.chain _ _ _ (fair.add xs (costs R l) (arc_costs R a) old.low) g.low;
         near = λ j m.
-            subst (λ (z : ℕ). N (suc h) j z (get_or ys j 0)) (sym (get_d-sum xs (arc_costs R a) j))
+            subst (λ (z : ℕ). N (suc h) j z (get_or ys j 0)) (sym (get_or-sum xs (arc_costs R a) j))
             (carries.further h j _ _ (get_or (arc_costs R a) j 0) (get_or ys j 0) m (old.near j m)
-            (same-cell R ok ys zs under' under own j m ∙ ap (position R j) (get_d-sum (costs R l) (arc_costs R a) j)));
+            (same-cell R ok ys zs under' under own j m ∙ ap (position R j) (get_or-sum (costs R l) (arc_costs R a) j)));
       }

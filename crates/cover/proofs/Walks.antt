@@ -11,7 +11,7 @@ use Rattle.request.specs.Accepted.{Regular}
 use Rattle.request.proofs.Tops.{arc-le}
 use Rattle.request.proofs.Cells.{UnderTop, cell-lt}
 use Rattle.rounds.specs.Label.{costs, sum, candidate, came}
-use Rattle.rounds.proofs.Labels.{get_d-sum, zero-costs, came-costs}
+use Rattle.rounds.proofs.Labels.{get_or-sum, zero-costs, came-costs}
 use Rattle.cover.specs.Walk.{Walk, sums_from, sums}
 
 -- ---- one arc more at the end
@@ -33,7 +33,7 @@ sums-le : (R : Req) (j u v : ℕ) (xs ws : List ℕ) → Walk R u ws v → get_o
 unfolding sums_from
 sums-le R j u v xs [] h = omega arith
 sums-le R j u v xs (a ∷ ws) h =
-    omega (arith, sums-le R j (head R a) v (sum xs (arc_costs R a)) ws h.2, get_d-sum xs (arc_costs R a) j, arc-le R a h.0 j, suc-mul (length ws) (largest R j))
+    omega (arith, sums-le R j (head R a) v (sum xs (arc_costs R a)) ws h.2, get_or-sum xs (arc_costs R a) j, arc-le R a h.0 j, suc-mul (length ws) (largest R j))
 
 -- what holds of the empty walk, and of a walk with one more arc at its end, holds of every walk from the source
 module _ {κ} (R : Req) (P : List ℕ → ℕ → Type κ)

@@ -8,7 +8,7 @@ use lib.ListN.{length, get_or, set, take, drop, replicate, length-append}
 use lib.Seq.{take-take}
 use borrow.Author.Tests.{lt-ltb, le-ltb}
 use Rattle.words.specs.Pieces.{part, write}
-use Rattle.words.proofs.Writes.{length_part, get_d_part, write-part, set-behind, part-more, get_d-write-below}
+use Rattle.words.proofs.Writes.{length_part, get_d_part, write-part, set-behind, part-more, get_or-write-below}
 use Rattle.rounds.specs.Label.{label}
 use Rattle.keeping.specs.Kept.{keep_words}
 
@@ -18,7 +18,7 @@ module _ (xs : List ℕ) (at to d : ℕ) (below : at + d + 2 ≤ to) (room : to 
   one-cost ls k h e =
       let P : List ℕ = part xs at k in
       ap (λ (l : List ℕ). set l (to + k) (get_or l (at + k) 0)) e
-      ∙ ap (set (write xs to P) (to + k)) (get_d-write-below xs to P (at + k) (omega arith))
+      ∙ ap (set (write xs to P) (to + k)) (get_or-write-below xs to P (at + k) (omega arith))
       ∙ set-behind xs to P k (get_or xs (at + k) 0) (length_part xs at k (omega arith))
       ∙ ap (write xs to) (sym (part-more xs at k (omega arith)))
 

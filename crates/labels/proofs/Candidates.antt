@@ -7,7 +7,7 @@ use lib.ListN.{length, get_or, set, take, drop, length-append, length-drop, drop
 use lib.Seq.{length-take-le, take_all, get_or-take, get_or-drop}
 use Rattle.words.proofs.Writes.{front-more, copy_more}
 use Rattle.rounds.specs.Label.{label, sum}
-use Rattle.rounds.proofs.Labels.{get_d-sum, length-sum}
+use Rattle.rounds.proofs.Labels.{get_or-sum, length-sum}
 use Rattle.labels.specs.Words.{Adds}
 
 -- the sums of a label's costs and an arc's
@@ -30,7 +30,7 @@ module _ (d : ℕ) (out lab arc : List ℕ) (h : Adds d out lab arc) where
   sums_at : (k : ℕ) → k < d → get_or S k 0 ≡ get_or lab k 0 + get_or arc (k + 2) 0
   sums_at k l =
       let e : 2 + k ≡ k + 2 = omega arith in
-      get_d-sum (take d lab) (drop 2 arc) k
+      get_or-sum (take d lab) (drop 2 arc) k
       ∙ ap (λ (x : ℕ). x + get_or (drop 2 arc) k 0) (get_or-take d lab k 0 l)
       ∙ ap (λ (x : ℕ). get_or lab k 0 + x) (get_or-drop 2 arc k 0 ∙ ap (λ (n : ℕ). get_or arc n 0) e)
 

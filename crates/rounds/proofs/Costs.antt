@@ -13,7 +13,7 @@ use Rattle.request.specs.Accepted.{Regular}
 use Rattle.request.proofs.Tops.{arc-le}
 use Rattle.rounds.specs.Label.{costs, filled, candidate}
 use Rattle.rounds.specs.Rounds.{block, start_block, start_layer, keep_block, layer, label_of, label_at}
-use Rattle.rounds.proofs.Labels.{get_d-sum, zero-costs, start-costs, kept-costs, came-costs}
+use Rattle.rounds.proofs.Labels.{get_or-sum, zero-costs, start-costs, kept-costs, came-costs}
 use Rattle.rounds.proofs.Start.{start-block, start-label, start-only}
 use Rattle.rounds.proofs.Node.{Origin, of-old, of-arc}
 use Rattle.rounds.proofs.Round.{keep_at, keep-filled, block-whole, label-long, origin}
@@ -51,7 +51,7 @@ module _ (R : Req) (ok : Regular R) where
       go (of-arc a f in-a here in_f u k e) =
           let l : List ℕ = at (width R) (block R (layer R i) (tail R a)) f in
           let hu = ok.tail_in a in-a in
-          let same = ap (λ (l : List ℕ). get_or (costs R l) j 0) e ∙ ap (λ (l : List ℕ). get_or l j 0) (came-costs R ok a in-a l (label-long R ok i (tail R a) f hu in_f) f) ∙ get_d-sum (costs R l) (arc_costs R a) j in
+          let same = ap (λ (l : List ℕ). get_or (costs R l) j 0) e ∙ ap (λ (l : List ℕ). get_or l j 0) (came-costs R ok a in-a l (label-long R ok i (tail R a) f hu in_f) f) ∙ get_or-sum (costs R l) (arc_costs R a) j in
           let h = old (tail R a) f hu in_f u j in
           let g = arc-le R a in-a j in
           let s = suc-mul i (largest R j) in

@@ -26,12 +26,12 @@ block-few n d h k = mul-le-mul k (five h)
 
 -- ---- sums of costs
 
-pub get_d-sum : (xs ys : List ℕ) (j : ℕ) → get_or (sum xs ys) j zero ≡ get_or xs j zero + get_or ys j zero
+pub get_or-sum : (xs ys : List ℕ) (j : ℕ) → get_or (sum xs ys) j zero ≡ get_or xs j zero + get_or ys j zero
 unfolding sum
-get_d-sum [] ys j = sym (zero-add _)
-get_d-sum (x ∷ xs) [] j = omega arith
-get_d-sum (x ∷ xs) (y ∷ ys) zero = refl
-get_d-sum (x ∷ xs) (y ∷ ys) (suc j) = get_d-sum xs ys j
+get_or-sum [] ys j = sym (zero-add _)
+get_or-sum (x ∷ xs) [] j = omega arith
+get_or-sum (x ∷ xs) (y ∷ ys) zero = refl
+get_or-sum (x ∷ xs) (y ∷ ys) (suc j) = get_or-sum xs ys j
 
 pub length-sum : (xs ys : List ℕ) → length xs ≡ length ys → length (sum xs ys) ≡ length ys
 unfolding sum

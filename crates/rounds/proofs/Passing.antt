@@ -23,7 +23,7 @@ use Rattle.rounds.specs.Label.{label, costs, step, filled, start, kept, sum, can
 use Rattle.rounds.specs.Rounds.{span, block, start_block, start_layer, keep_block, keep_all, offer, try_cell, arc_step, round, layer, label_of, label_at}
 use Rattle.rounds.specs.Passing.{Room, Taken, Tried, AllTried, Quiet}
 use Rattle.rounds.proofs.Costs.{layer-costs, room-for-arc}
-use Rattle.rounds.proofs.Labels.{get_d-sum, step_label, kept-costs}
+use Rattle.rounds.proofs.Labels.{get_or-sum, step_label, kept-costs}
 use Rattle.rounds.proofs.Start.{start-block, start-label, start-only}
 use Rattle.rounds.proofs.Ties.{Fair, Stays, stay-low, stays-held}
 use Rattle.rounds.proofs.Node.{Good, Origin, of-old, of-arc, cand, made, made-costs, cand-length, try_cell-length, try-good, node-origin}
@@ -35,7 +35,7 @@ use Rattle.rounds.proofs.Round.{block-length, arcs-sized, keep-sized, keep_at, k
 pub room-cell : (R : Req) (ok : Regular R) (F : List ℕ) → Room R F → (a c : ℕ) → a < arc_count R → c < cells R → T (filled R (at (width R) F c)) → cell R (cand R F a c) < cells R
 unfolding Room candidate UnderTop
 room-cell R ok F room a c in-a in_c t =
-    cell-lt R ok (cand R F a c) (λ j _. omega (arith, room c in_c t j, arc-le R a in-a j, get_d-sum (costs R (at (width R) F c)) (arc_costs R a) j))
+    cell-lt R ok (cand R F a c) (λ j _. omega (arith, room c in_c t j, arc-le R a in-a j, get_or-sum (costs R (at (width R) F c)) (arc_costs R a) j))
 
 pub layer-room : (R : Req) → Regular R → (i v : ℕ) → suc i ≤ reach R → v < R.nodes → Room R (block R (layer R i) v)
 unfolding Room label_at label_of

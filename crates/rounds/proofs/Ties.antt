@@ -10,7 +10,7 @@ use borrow.Author.Tests.{le-ltb}
 use Rattle.words.proofs.Choices.{false-is, or-implies}
 use Rattle.request.specs.Request.{Req, last, lower}
 use Rattle.rounds.specs.Label.{costs, filled, sum, wins}
-use Rattle.rounds.proofs.Labels.{get_d-sum}
+use Rattle.rounds.proofs.Labels.{get_or-sum}
 
 pub record Fair (rule : List ℕ → List ℕ → Bool) (Low : List ℕ → List ℕ → Type 0) : Type 0 where
   pub same : (xs : List ℕ) → Low xs xs
@@ -28,7 +28,7 @@ unfolding lower
 lower-fair d = record {
   same = λ xs. le_refl (last d xs);
   chain = λ xs ys zs h k. le_trans k h;
-  add = λ xs ys cs h. omega (arith, get_d-sum xs cs (d - 1), get_d-sum ys cs (d - 1));
+  add = λ xs ys cs h. omega (arith, get_or-sum xs cs (d - 1), get_or-sum ys cs (d - 1));
   win = λ new old t. le_of_lt (ltb→lt (last d new) (last d old) t);
   stay = λ new old t. nltb→le (last d new) (last d old) t;
 }

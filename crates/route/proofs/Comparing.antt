@@ -9,7 +9,7 @@ use lib.Seq.{length-take-le, get_or-take, get_or-drop, ext_get_or}
 use lib.Dec.{T, eqb, eqb→eq, eqb_refl}
 use Rattle.words.proofs.Choices.{is_true, true-is, and_both}
 use Rattle.rounds.specs.Label.{sum}
-use Rattle.rounds.proofs.Labels.{get_d-sum, length-sum}
+use Rattle.rounds.proofs.Labels.{get_or-sum, length-sum}
 use Rattle.route.specs.Chain.{same}
 
 -- ---- the test is equality
@@ -72,7 +72,7 @@ module _ (l : List ℕ) (d : ℕ) (in-l : d ≤ length l) where
       sum-word : (j : ℕ) → j < d → get_or (sum (take d m) (drop 2 arc)) j 0 ≡ get_or m j 0 + get_or arc (j + 2) 0
       sum-word j g =
           let e : 2 + j ≡ j + 2 = omega arith in
-          get_d-sum (take d m) (drop 2 arc) j
+          get_or-sum (take d m) (drop 2 arc) j
           ∙ ap₂ (λ (x y : ℕ). x + y) (get_or-take d m j 0 g) (get_or-drop 2 arc j 0 ∙ ap (λ (k : ℕ). get_or arc k 0) e)
 
       costs-long : length (drop 2 arc) ≡ d

@@ -19,7 +19,7 @@ use Rattle.request.proofs.Cells.{cell-ext}
 use Rattle.rounds.specs.Label.{label, sum, costs, step, filled, candidate, came, wins}
 use Rattle.rounds.specs.Rounds.{span, offer, try_cell}
 use Rattle.rounds.specs.Passing.{Room}
-use Rattle.rounds.proofs.Labels.{get_d-sum, came-length, came-costs, cost-word}
+use Rattle.rounds.proofs.Labels.{get_or-sum, came-length, came-costs, cost-word}
 use Rattle.labels.specs.Words.{wins_over, FoundAt}
 use Rattle.tries.specs.declared.Frame.{Frame}
 use Rattle.tries.specs.Frame.{offered, extended, Extends, Framed, Apart, Hinted}
@@ -111,7 +111,7 @@ module _ (s : Frame) (arcs ladders labels : List ℕ) (from to a c : ℕ)
       candidate-under j =
           let m = apart.room c in_c (true-is (is-filled ne)) j in
           let g = arc-le Q a in-a j in
-          let e = get_d-sum (costs Q l) (arc_costs Q a) j in
+          let e = get_or-sum (costs Q l) (arc_costs Q a) j in
           omega arith
 
       came-at : (j : ℕ) → j < s.request.criteria → get_or (came Q a c l) j 0 ≡ get_or (candidate Q a l) j 0
@@ -126,7 +126,7 @@ module _ (s : Frame) (arcs ladders labels : List ℕ) (from to a c : ℕ)
           let y : get_or (part arcs (a * s.w) s.w) (k + 2) 0 ≡ get_or (arc_costs Q a) k 0 = ap (λ (z : List ℕ). get_or z (k + 2) 0) (arc-is Q s ladders f a) ∙ sym (cost-at Q a k) in
           let u = candidate-under k in
           let t = top-le Q f.bounded k (omega arith) in
-          let g = get_d-sum (costs Q l) (arc_costs Q a) k in
+          let g = get_or-sum (costs Q l) (arc_costs Q a) k in
           omega arith
 
       graded-is : s.request.criteria - 1 ≡ s.d - 1
