@@ -19,7 +19,7 @@ use Rattle.request.specs.Shape.{cells, cell}
 use Rattle.request.specs.Accepted.{Regular}
 use Rattle.request.proofs.Cells.{UnderTop, cell-lt}
 use Rattle.request.proofs.Tops.{arc-le}
-use Rattle.rounds.specs.Label.{label, costs, step, filled, start, kept, sum, candidate, came, wins}
+use Rattle.rounds.specs.Label.{costs, step, filled, start, sum, candidate, came, wins}
 use Rattle.rounds.specs.Rounds.{span, block, start_block, start_layer, keep_block, keep_all, offer, try_cell, arc_step, round, layer, label_of, label_at}
 use Rattle.rounds.specs.Passing.{Room, Taken, Tried, AllTried, Quiet}
 use Rattle.rounds.proofs.Costs.{layer-costs, room-for-arc}

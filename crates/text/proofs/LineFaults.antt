@@ -13,7 +13,7 @@ use Rattle.words.proofs.Bounds.{at_most-none, at_most-cons, at_most-replicate}
 use Rattle.text.specs.declared.Item.{Item}
 use Rattle.text.specs.declared.Item.TheVariants.{Found, Wrong}
 use Rattle.text.specs.declared.Line.TheVariants.{Good, Bad}
-use Rattle.text.specs.Field.{before, common}
+use Rattle.text.specs.Field.{common}
 use Rattle.text.specs.Number.{digits, largest}
 use Rattle.text.specs.Line.{Got, good, bad, item, prepend, next, numbers, line_of, answer_of, parted}
 use Rattle.text.specs.Fault.{FirstFault}

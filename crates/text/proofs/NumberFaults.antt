@@ -8,7 +8,6 @@ use lib.ListN.{length, take, drop, take-append-drop}
 use lib.Seq.{length-take-le}
 use lib.Dec.{leb, eqb}
 use Rattle.text.specs.declared.Number.TheVariants.{Value, Fault}
-use Rattle.text.specs.Field.{before}
 use Rattle.text.specs.Number.{is_digit, digits_after, zero_alone, number}
 use Rattle.text.specs.Fault.{FirstFault}
 use Rattle.text.proofs.Numbers.{number-fault}

@@ -1,10 +1,5 @@
 -- `climb`. The loop's invariant: the cost lies from word j on, and j is not the last word. Assumes nothing.
-use mathlib.Core.Path.{◌≡◌, subst}
-use mathlib.Core.List.{List}
-use Prim.Native.Nat.{ℕ, ◌+◌, ◌-◌, ◌≤◌, ◌<◌}
-use native.Mathlib.Decide.{dec_lt}
-use native.Mathlib.Omega.{arith}
-use borrow.Author.Rules.{rules}
+use Prim.Native.Nat.{◌+◌, ◌-◌, ◌≤◌, ◌<◌}
 use lib.ListN.{length, get_or}
 use Rattle.fences.proofs.climb.Given as goal
 

@@ -1,6 +1,6 @@
 -- `count`. The loop's invariant: b is fence j, at most the top. Assumes nothing.
 use mathlib.Core.Path.{◌≡◌, sym, ap, ◌∙◌, subst}
-use Prim.Native.Nat.{ℕ, ◌+◌, ◌-◌, ◌≤◌, ◌<◌}
+use Prim.Native.Nat.{ℕ, ◌+◌, ◌≤◌, ◌<◌}
 use native.Mathlib.Omega.{arith}
 use Rattle.fences.specs.Fence.{next, fence, HasPosition, buckets}
 use Rattle.fences.specs.Answer.{buckets_of}

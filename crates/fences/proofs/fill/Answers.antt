@@ -1,11 +1,11 @@
 -- `fill`. The loop's invariant: b is fence k, the first k words are the fences and the others are as they were. Assumes nothing.
 use mathlib.Core.Path.{◌≡◌, refl, sym, ap, ◌∙◌}
 use mathlib.Core.List.{List, ◌++◌, append-nil}
-use Prim.Native.Nat.{ℕ, ◌-◌, ◌≤◌, zero-le}
+use Prim.Native.Nat.{ℕ, zero-le}
 use native.Mathlib.Omega.{arith}
 use lib.ListN.{length, drop, length-set}
 use lib.Seq.{drop-length}
-use Rattle.fences.specs.Fence.{next, fence, fences}
+use Rattle.fences.specs.Fence.{next, fences}
 use Rattle.fences.proofs.Fences.{fence-zero, fence-next, ladder-words}
 use Rattle.fences.proofs.Ladders.{fences-none, fences-store}
 use Rattle.fences.proofs.fill.Goals as goal

@@ -1,13 +1,9 @@
 -- `fill`. The loop's invariant: b is fence k, the first k words are the fences and the others are as they were. Assumes nothing.
-use mathlib.Core.Path.{◌≡◌, refl, sym, ap, ◌∙◌}
-use mathlib.Core.List.{List, ◌++◌, append-nil}
-use Prim.Native.Nat.{ℕ, ◌-◌, ◌≤◌, zero-le}
-use native.Mathlib.Omega.{arith}
-use lib.ListN.{length, drop, length-set}
-use lib.Seq.{drop-length}
-use Rattle.fences.specs.Fence.{next, fence, fences}
-use Rattle.fences.proofs.Fences.{fence-zero, fence-next, ladder-words}
-use Rattle.fences.proofs.Ladders.{fences-none, fences-store}
+use mathlib.Core.Path.{◌≡◌}
+use mathlib.Core.List.{◌++◌}
+use Prim.Native.Nat.{◌-◌, ◌≤◌}
+use lib.ListN.{length, drop}
+use Rattle.fences.specs.Fence.{fence, fences}
 use Rattle.fences.proofs.fill.Given as goal
 
 abbrev pub invariant-loop-k : goal.invariant-loop-k

@@ -3,7 +3,6 @@ use Prim.Native.Nat.{◌^◌}
 use native.Mathlib.Nat.{lt_of_le_of_lt, mul-le-mul}
 use native.Mathlib.Omega.{arith}
 use lib.Dec.{lit<}
-use borrow.Author.Rules.{rules}
 use Rattle.fences.proofs.Fences.{next_le}
 use Rattle.fences.proofs.next_fence.Goals as goal
 

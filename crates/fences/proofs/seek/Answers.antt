@@ -2,11 +2,10 @@
 -- Assumes nothing.
 use mathlib.Core.Path.{◌≡◌, subst}
 use mathlib.Core.List.{List}
-use Prim.Native.Nat.{ℕ, ◌+◌, ◌≤◌, ◌<◌}
+use Prim.Native.Nat.{ℕ, ◌≤◌, ◌<◌}
 use native.Mathlib.Decide.{dec_lt}
 use native.Mathlib.Omega.{arith}
-use borrow.Author.Rules.{rules}
-use lib.ListN.{length, get_or}
+use lib.ListN.{get_or}
 use Rattle.fences.proofs.seek.Goals as goal
 
 -- word 0 is at most the cost, so a word that is over it is not word 0

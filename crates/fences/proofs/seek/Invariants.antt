@@ -1,12 +1,7 @@
 -- `seek`. The loop's invariant: j is not the ladder's last word; it goes down no further than word 0, which is not above the cost.
 -- Assumes nothing.
-use mathlib.Core.Path.{◌≡◌, subst}
-use mathlib.Core.List.{List}
-use Prim.Native.Nat.{ℕ, ◌+◌, ◌≤◌, ◌<◌}
-use native.Mathlib.Decide.{dec_lt}
-use native.Mathlib.Omega.{arith}
-use borrow.Author.Rules.{rules}
-use lib.ListN.{length, get_or}
+use Prim.Native.Nat.{◌+◌, ◌<◌}
+use lib.ListN.{length}
 use Rattle.fences.proofs.seek.Given as goal
 
 abbrev pub invariant-loop-j : goal.invariant-loop-j

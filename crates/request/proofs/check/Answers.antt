@@ -13,7 +13,6 @@ use Rattle.request.specs.Answer.{shaped_of}
 use Rattle.request.proofs.Accepted.{regular, small}
 use Rattle.request.proofs.Stages.{was-clear}
 use Rattle.request.proofs.Counts.{count-few, shape-decides, early-decides, bucket-decides}
-use borrow.Author.Rules.{rules}
 use native.Mathlib.Omega.{arith}
 use Rattle.request.proofs.check.Goals as goal
 use Rattle.request.proofs.check.Goals.{In_default, In_default-outcome}

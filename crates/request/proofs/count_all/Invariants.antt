@@ -1,14 +1,7 @@
 -- `count_all`. The loop's invariant: the counts before criterion j stand, each at most 4,096. Assumes nothing.
-use mathlib.Core.Path.{◌≡◌, sym, ap, ◌∙◌, subst}
-use Prim.Native.Nat.{ℕ, ◌-◌, ◌≤◌, zero-le}
-use Rattle.request.specs.declared.Refusal.{Refusal}
-use Rattle.request.specs.declared.Weighing.{Weighing}
-use Rattle.request.specs.declared.Weighing.TheVariants as weighing
+use Prim.Native.Nat.{◌-◌, ◌≤◌}
 use Rattle.request.specs.Request.{asked}
-use Rattle.request.specs.Answer.{said}
-use Rattle.request.proofs.Counts.{Upto, none_yet, one_more, none_over, first-over, all-counted}
-use borrow.Author.Rules.{rules}
-use native.Mathlib.Omega.{arith}
+use Rattle.request.proofs.Counts.{Upto}
 use Rattle.request.proofs.count_all.Given as goal
 
 abbrev pub invariant-loop-j : goal.invariant-loop-j

@@ -11,7 +11,6 @@ use Rattle.request.specs.Shape.{top}
 use Rattle.request.specs.Accepted.{Regular, Small}
 use Rattle.request.proofs.Tops.{top-le}
 use Rattle.request.proofs.Stages.{top-is}
-use borrow.Author.Rules.{rules}
 use native.Mathlib.Omega.{arith}
 use Rattle.request.proofs.count_buckets.Goals as goal
 

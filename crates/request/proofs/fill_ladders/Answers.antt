@@ -3,13 +3,11 @@ use mathlib.Core.Path.{◌≡◌, sym, ap, ◌∙◌}
 use Prim.Native.Nat.{ℕ, ◌+◌, ◌-◌, ◌≤◌, ◌<◌, zero-le}
 use mathlib.Core.List.{List}
 use lib.ListN.{length, get_or}
-use Rattle.words.specs.Loops.{total}
 use Rattle.words.specs.Pieces.{write, join}
 use Rattle.words.proofs.Loops.{total-zero, total-next}
 use Rattle.words.proofs.Pieces.{join-zero}
 use Rattle.words.proofs.Writes.{length_part, length-write, write-part}
 use Rattle.request.proofs.Filling.{ladder_of, long_of, room_for, one_more}
-use borrow.Author.Rules.{rules}
 use native.Mathlib.Omega.{arith}
 use Rattle.request.proofs.fill_ladders.Goals as goal
 use Rattle.request.proofs.fill_ladders.Goals.{At-loop-j}

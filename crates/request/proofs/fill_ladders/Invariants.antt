@@ -1,16 +1,9 @@
 -- `fill_ladders`. The loop's invariant: the ladders before criterion j stand at the front, and end at `at`. Assumes nothing.
-use mathlib.Core.Path.{◌≡◌, sym, ap, ◌∙◌}
-use Prim.Native.Nat.{ℕ, ◌+◌, ◌-◌, ◌≤◌, ◌<◌, zero-le}
-use mathlib.Core.List.{List}
-use lib.ListN.{length, get_or}
+use mathlib.Core.Path.{◌≡◌}
+use Prim.Native.Nat.{◌-◌, ◌≤◌}
 use Rattle.words.specs.Loops.{total}
 use Rattle.words.specs.Pieces.{write, join}
-use Rattle.words.proofs.Loops.{total-zero, total-next}
-use Rattle.words.proofs.Pieces.{join-zero}
-use Rattle.words.proofs.Writes.{length_part, length-write, write-part}
-use Rattle.request.proofs.Filling.{ladder_of, long_of, room_for, one_more}
-use borrow.Author.Rules.{rules}
-use native.Mathlib.Omega.{arith}
+use Rattle.request.proofs.Filling.{ladder_of, long_of}
 use Rattle.request.proofs.fill_ladders.Given as goal
 
 abbrev pub invariant-loop-j : goal.invariant-loop-j

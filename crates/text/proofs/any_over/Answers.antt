@@ -1,10 +1,6 @@
 -- `any_over`: what is left of the numbers says what all of them say. Assumes nothing.
-use Prim.Native.Nat.{◌-◌, ◌≤◌}
-use mathlib.Core.Path.{◌≡◌, refl, sym, ◌∙◌}
+use mathlib.Core.Path.{refl, sym, ◌∙◌}
 use native.Mathlib.Omega.{arith}
-use lib.ListN.{length, drop}
-use borrow.Author.Rules.{rules}
-use Rattle.text.specs.Number.{any_over}
 use Rattle.text.proofs.Numbers.{over-here, over-on, over_none}
 use Rattle.text.proofs.any_over.Goals as goal
 

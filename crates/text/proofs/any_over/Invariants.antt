@@ -1,11 +1,8 @@
 -- `any_over`: what is left of the numbers says what all of them say. Assumes nothing.
 use Prim.Native.Nat.{◌-◌, ◌≤◌}
-use mathlib.Core.Path.{◌≡◌, refl, sym, ◌∙◌}
-use native.Mathlib.Omega.{arith}
+use mathlib.Core.Path.{◌≡◌}
 use lib.ListN.{length, drop}
-use borrow.Author.Rules.{rules}
 use Rattle.text.specs.Number.{any_over}
-use Rattle.text.proofs.Numbers.{over-here, over-on, over_none}
 use Rattle.text.proofs.any_over.Given as goal
 
 abbrev pub invariant-loop-i : goal.invariant-loop-i

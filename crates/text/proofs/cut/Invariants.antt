@@ -1,13 +1,9 @@
 -- `cut`: the first i bytes are not b, and the rest goes on as it stands. Assumes nothing.
-use Prim.Native.Nat.{ℕ, ◌≤◌, ◌-◌, ◌+◌, ◌<◌}
-use mathlib.Core.Path.{◌≡◌, refl, sym, ◌∙◌, ap}
-use mathlib.Core.List.{List, [], ◌∷◌, ◌++◌, append-nil, append_assoc}
-use native.Mathlib.Omega.{arith}
-use lib.ListN.{length, take, drop, get_or}
-use lib.Seq.{length-take-le, take_all}
-use borrow.Author.Rules.{rules}
+use Prim.Native.Nat.{◌≤◌, ◌-◌}
+use mathlib.Core.Path.{◌≡◌}
+use mathlib.Core.List.{◌++◌}
+use lib.ListN.{length, take, drop}
 use Rattle.text.specs.Field.{before}
-use Rattle.text.proofs.Fields.{before-end, before-stop, before_on, take_next}
 use Rattle.text.proofs.cut.Given as goal
 
 abbrev pub invariant-loop-i : goal.invariant-loop-i

@@ -1,9 +1,5 @@
 -- `in_common`: i bytes agree, and the rest goes on as it stands. Assumes nothing.
-use Prim.Native.Nat.{◌≤◌, ◌-◌, ◌+◌}
-use mathlib.Core.Path.{◌≡◌}
 use native.Mathlib.Omega.{arith}
-use lib.ListN.{length, drop}
-use Rattle.text.specs.Field.{common}
 use Rattle.text.proofs.Fields.{common-done, common-short, common-stop, common-on}
 use Rattle.text.proofs.in_common.Goals as goal
 

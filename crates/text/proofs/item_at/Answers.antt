@@ -4,7 +4,6 @@ use mathlib.Core.Path.{◌≡◌, sym, ◌∙◌, ap}
 use mathlib.Core.List.{List}
 use native.Mathlib.Omega.{arith}
 use lib.ListN.{length, drop, length-drop}
-use borrow.Author.Rules.{rules}
 use Rattle.text.specs.declared.Number.TheVariants.{Fault}
 use Rattle.text.specs.Field.{before}
 use Rattle.text.specs.Number.{number}

@@ -1,11 +1,8 @@
 -- `number_of`: what is left of the field, after the value v of its first i bytes, says what the field says. Assumes nothing.
 use Prim.Native.Nat.{◌≤◌, ◌-◌}
-use mathlib.Core.Path.{◌≡◌, sym, ◌∙◌}
-use native.Mathlib.Omega.{arith}
+use mathlib.Core.Path.{◌≡◌}
 use lib.ListN.{length, drop}
-use borrow.Author.Rules.{rules}
 use Rattle.text.specs.Number.{number, digits_after}
-use Rattle.text.proofs.Numbers.{number-empty, number-first, number-zero-alone, number-zero-more, digits-end, digits_low, digits-high, digits-many, digits-on}
 use Rattle.text.proofs.number_of.Given as goal
 
 -- what is left of the field, after v and i, says what the field says

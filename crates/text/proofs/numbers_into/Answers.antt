@@ -1,10 +1,8 @@
 -- `numbers_into`: i numbers stand in front of what the buffer held, and the rest of the line says the rest. Assumes nothing.
-use Prim.Native.Nat.{◌-◌}
 use mathlib.Core.Path.{sym, ◌∙◌}
 use native.Mathlib.Omega.{arith}
-use lib.ListN.{length, length-set}
-use borrow.Author.Rules.{rules}
-use Rattle.text.proofs.Lines.{Reading, reading-start, reading-on, reading-wrong, reading-over, reading-end}
+use lib.ListN.{length-set}
+use Rattle.text.proofs.Lines.{reading-start, reading-on, reading-wrong, reading-over, reading-end}
 use Rattle.text.proofs.numbers_into.Goals as goal
 
 pub loop-i-init : goal.loop-i-init

@@ -1,10 +1,7 @@
 -- `numbers_into`: i numbers stand in front of what the buffer held, and the rest of the line says the rest. Assumes nothing.
 use Prim.Native.Nat.{◌-◌}
-use mathlib.Core.Path.{sym, ◌∙◌}
-use native.Mathlib.Omega.{arith}
-use lib.ListN.{length, length-set}
-use borrow.Author.Rules.{rules}
-use Rattle.text.proofs.Lines.{Reading, reading-start, reading-on, reading-wrong, reading-over, reading-end}
+use lib.ListN.{length}
+use Rattle.text.proofs.Lines.{Reading}
 use Rattle.text.proofs.numbers_into.Given as goal
 
 abbrev pub invariant-loop-i : goal.invariant-loop-i

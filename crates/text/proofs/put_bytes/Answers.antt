@@ -1,9 +1,9 @@
 -- `put_bytes`: the first i bytes are written. Assumes nothing.
-use Prim.Native.Nat.{ℕ, ◌≤◌, ◌-◌, ◌+◌}
+use Prim.Native.Nat.{ℕ, ◌+◌}
 use mathlib.Core.Path.{◌≡◌, refl, sym, ◌∙◌, ap}
 use mathlib.Core.List.{List}
 use native.Mathlib.Omega.{arith}
-use lib.ListN.{length, take, set, get_or, length-set}
+use lib.ListN.{take, set, get_or, length-set}
 use lib.Seq.{take_all}
 use Rattle.words.specs.Pieces.{write}
 use Rattle.words.proofs.Writes.{write-none}

@@ -1,11 +1,10 @@
 -- `put_numbers`: the first i numbers are written, each after sep. Assumes nothing.
-use Prim.Native.Nat.{ℕ, ◌≤◌, ◌-◌, ◌+◌}
+use Prim.Native.Nat.{ℕ, ◌≤◌, ◌+◌}
 use mathlib.Core.Path.{◌≡◌, refl, ◌∙◌, ap}
 use mathlib.Core.List.{List}
 use native.Mathlib.Omega.{arith}
-use lib.ListN.{length, take, set, get_or, length-set}
+use lib.ListN.{length, set, get_or, length-set}
 use lib.Seq.{take_all}
-use borrow.Author.Rules.{rules}
 use Rattle.words.specs.Pieces.{write}
 use Rattle.text.specs.Number.{digits}
 use Rattle.text.specs.Line.{parted}

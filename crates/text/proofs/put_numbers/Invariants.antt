@@ -1,15 +1,9 @@
 -- `put_numbers`: the first i numbers are written, each after sep. Assumes nothing.
-use Prim.Native.Nat.{ℕ, ◌≤◌, ◌-◌, ◌+◌}
-use mathlib.Core.Path.{◌≡◌, refl, ◌∙◌, ap}
-use mathlib.Core.List.{List}
-use native.Mathlib.Omega.{arith}
-use lib.ListN.{length, take, set, get_or, length-set}
-use lib.Seq.{take_all}
-use borrow.Author.Rules.{rules}
+use Prim.Native.Nat.{◌≤◌, ◌-◌, ◌+◌}
+use mathlib.Core.Path.{◌≡◌}
+use lib.ListN.{length, take}
 use Rattle.words.specs.Pieces.{write}
-use Rattle.text.specs.Number.{digits}
 use Rattle.text.specs.Line.{parted}
-use Rattle.text.proofs.Puts.{parted-end, parted-room, parted-none, numbers-next}
 use Rattle.text.proofs.put_numbers.Given as goal
 
 abbrev pub invariant-loop-i : goal.invariant-loop-i

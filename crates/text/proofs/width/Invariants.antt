@@ -1,10 +1,8 @@
 -- `width`: the digits counted so far and those of what is left make all. Assumes nothing.
 use Prim.Native.Nat.{◌≤◌, ◌+◌}
 use mathlib.Core.Path.{◌≡◌}
-use native.Mathlib.Omega.{arith}
 use lib.ListN.{length}
 use Rattle.text.specs.Number.{digits}
-use Rattle.text.proofs.Digits.{width_small, width-more}
 use Rattle.text.proofs.width.Given as goal
 
 abbrev pub invariant-loop-v : goal.invariant-loop-v

@@ -1,10 +1,9 @@
 -- `widths`: n bytes for the first i numbers, at most eleven for each. Assumes nothing.
-use Prim.Native.Nat.{◌-◌, ◌*◌, ◌≤◌, ◌<◌}
-use mathlib.Core.Path.{◌≡◌, ap, ◌∙◌}
+use Prim.Native.Nat.{◌≤◌, ◌<◌}
+use mathlib.Core.Path.{ap, ◌∙◌}
 use native.Mathlib.Omega.{arith}
-use lib.ListN.{length, take, get_or}
+use lib.ListN.{get_or}
 use lib.Seq.{take_all}
-use borrow.Author.Rules.{rules}
 use Rattle.text.specs.Line.{parted_width}
 use Rattle.text.proofs.Digits.{width_word}
 use Rattle.text.proofs.Puts.{width-none, width-next}

@@ -1,13 +1,8 @@
 -- `widths`: n bytes for the first i numbers, at most eleven for each. Assumes nothing.
-use Prim.Native.Nat.{◌-◌, ◌*◌, ◌≤◌, ◌<◌}
-use mathlib.Core.Path.{◌≡◌, ap, ◌∙◌}
-use native.Mathlib.Omega.{arith}
-use lib.ListN.{length, take, get_or}
-use lib.Seq.{take_all}
-use borrow.Author.Rules.{rules}
+use Prim.Native.Nat.{◌-◌, ◌*◌, ◌≤◌}
+use mathlib.Core.Path.{◌≡◌}
+use lib.ListN.{length, take}
 use Rattle.text.specs.Line.{parted_width}
-use Rattle.text.proofs.Digits.{width_word}
-use Rattle.text.proofs.Puts.{width-none, width-next}
 use Rattle.text.proofs.widths.Given as goal
 
 abbrev pub invariant-loop-i : goal.invariant-loop-i

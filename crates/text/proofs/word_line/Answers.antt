@@ -1,5 +1,4 @@
 -- `word_line`: the word, then the numbers. Assumes nothing.
-use borrow.Author.Rules.{rules}
 use Rattle.text.proofs.Lines.{line-short, line-whole}
 use Rattle.text.proofs.word_line.Goals as goal
 

@@ -1,5 +1,5 @@
 -- `copy`: the first i words are src's, the others as they were. Assumes nothing.
-use Prim.Native.Nat.{ℕ, ◌-◌, ◌≤◌, zero-le}
+use Prim.Native.Nat.{ℕ, zero-le}
 use native.Mathlib.Omega.{arith}
 use mathlib.Core.Path.{◌≡◌, refl, ap, ◌∙◌}
 use mathlib.Core.List.{List, ◌++◌, append-nil}
@@ -30,7 +30,7 @@ pub loop-i-smaller : goal.loop-i-smaller
 loop-i-smaller c = simp length-set (omega arith)
 
 pub loop-i-preserved : goal.loop-i-preserved
-loop-i-preserved c =     let i = c.loop-i.i in
+loop-i-preserved c = let i = c.loop-i.i in
     let s = c.args.src.now in (
       omega arith,
       ap (λ (z : List ℕ). set z i (get_or s i 0)) c.loop-i.invariant.1 ∙ copy_more s c.args.part.now i (omega arith) (omega arith),
@@ -41,7 +41,7 @@ pub shape_of-part : goal.shape_of-part
 shape_of-part c = c.loop-i.invariant.2
 
 pub returns : goal.returns
-returns c =     let p = c.args.part.now in
+returns c = let p = c.args.part.now in
     let s = c.args.src.now in
     let e : c.loop-i.i ≡ length p = omega arith in
     let f : c.loop-i.i ≡ length s = omega arith in

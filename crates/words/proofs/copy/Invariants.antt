@@ -1,11 +1,8 @@
 -- `copy`: the first i words are src's, the others as they were. Assumes nothing.
-use Prim.Native.Nat.{ℕ, ◌-◌, ◌≤◌, zero-le}
-use native.Mathlib.Omega.{arith}
-use mathlib.Core.Path.{◌≡◌, refl, ap, ◌∙◌}
-use mathlib.Core.List.{List, ◌++◌, append-nil}
-use lib.ListN.{length, get_or, set, take, drop, length-set}
-use lib.Seq.{drop-length, take-length}
-use Rattle.words.proofs.Writes.{copy_more}
+use Prim.Native.Nat.{◌-◌, ◌≤◌}
+use mathlib.Core.Path.{◌≡◌}
+use mathlib.Core.List.{◌++◌}
+use lib.ListN.{length, take, drop}
 use Rattle.words.proofs.copy.Given as goal
 
 abbrev pub invariant-loop-i : goal.invariant-loop-i

@@ -1,5 +1,4 @@
 -- `word`: the word where there is one, and 0 past the end, which is what `get_or` gives there. Assumes nothing.
-use borrow.Author.Rules.{rules}
 use mathlib.Core.Path.{sym}
 use lib.ListN.{get_or-eq_default}
 use Rattle.words.proofs.word.Goals as goal

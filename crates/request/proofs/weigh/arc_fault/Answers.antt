@@ -2,7 +2,6 @@
 use mathlib.Core.Path.{sym, ◌∙◌}
 use Rattle.words.proofs.Choices.{true-is, false-is}
 use Rattle.request.proofs.Branches.{fault-tail, fault-head, fault-loop, fault-cost, fault-none}
-use borrow.Author.Rules.{rules}
 use Rattle.request.proofs.weigh.arc_fault.Goals as goal
 
 pub returns-then-n-arc : goal.returns-then-n-arc

@@ -2,7 +2,6 @@
 use mathlib.Core.Path.{sym, ap, ◌∙◌}
 use Rattle.request.specs.Answer.{said}
 use Rattle.request.proofs.Branches.{words-over, words-many, words-good}
-use borrow.Author.Rules.{rules}
 use Rattle.request.proofs.weigh.weigh_arc_words.Goals as goal
 
 pub returns-then-words-width-gt0 : goal.returns-then-words-width-gt0

@@ -1,6 +1,6 @@
 -- `weigh_arcs`. The loop's invariant: no arc before arc a is bad. Assumes nothing.
 use mathlib.Core.Path.{◌≡◌, sym, ap, ◌∙◌}
-use Prim.Native.Nat.{ℕ, ◌+◌, ◌-◌, ◌*◌, ◌/◌, ◌≤◌, ◌<◌, zero-le}
+use Prim.Native.Nat.{◌+◌, ◌-◌, ◌*◌, ◌/◌, ◌≤◌, ◌<◌, zero-le}
 use native.Mathlib.Nat.{not-suc-le-zero}
 use mathlib.Core.Bool.{not}
 use lib.ListN.{length}
@@ -12,7 +12,6 @@ use Rattle.words.proofs.Rows.{each-clear}
 use Rattle.request.specs.Rows.{arc_fault, arc_row}
 use Rattle.request.specs.Answer.{said}
 use Rattle.request.proofs.Branches.{arc-good, arcs-refused}
-use borrow.Author.Rules.{rules}
 use native.Mathlib.Omega.{arith}
 use Rattle.request.proofs.weigh.weigh_arcs.Goals as goal
 use Rattle.request.proofs.weigh.weigh_arcs.Goals.{At-loop-a}

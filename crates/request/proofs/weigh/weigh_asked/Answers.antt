@@ -5,11 +5,9 @@ use mathlib.Core.List.{[], ◌∷◌}
 use lib.ListN.{length}
 use Rattle.words.specs.Rows.{clear, weigh, each}
 use Rattle.words.proofs.Rows.{clear-cons}
-use Rattle.request.specs.declared.Request.{Request}
 use Rattle.request.specs.Rows.{size_rows, ratio_row, arc_words_row}
 use Rattle.request.proofs.Accepted.{Sizes, sizes-facts, words-facts}
 use Rattle.request.proofs.Stages.{was-clear, by-sizes, by-ratios, by-words, by-arcs}
-use borrow.Author.Rules.{rules}
 use native.Mathlib.Omega.{arith}
 use Rattle.request.proofs.weigh.weigh_asked.Goals as goal
 use Rattle.request.proofs.weigh.weigh_asked.Goals.{In_default, In_default-ratios, In_default-words}

@@ -1,6 +1,6 @@
 -- `weigh_ratios`. The loop's invariant: no ratio before criterion j is bad. Assumes nothing.
 use mathlib.Core.Path.{◌≡◌, sym, ap, ◌∙◌}
-use Prim.Native.Nat.{ℕ, ◌-◌, ◌≤◌, ◌<◌, zero-le}
+use Prim.Native.Nat.{zero-le}
 use native.Mathlib.Nat.{not-suc-le-zero}
 use mathlib.Core.Bool.{not}
 use lib.Dec.{T}
@@ -10,7 +10,6 @@ use Rattle.words.proofs.Rows.{each-clear}
 use Rattle.request.specs.Rows.{ratio_row}
 use Rattle.request.specs.Answer.{said}
 use Rattle.request.proofs.Branches.{ratio-q, ratio-p, ratio-good, ratios-refused}
-use borrow.Author.Rules.{rules}
 use native.Mathlib.Omega.{arith}
 use Rattle.request.proofs.weigh.weigh_ratios.Goals as goal
 

@@ -3,11 +3,9 @@ use mathlib.Core.Path.{sym, ap, ◌∙◌}
 use mathlib.Core.Bool.{not}
 use lib.Dec.{T}
 use Rattle.words.proofs.Choices.{true-is, false-is}
-use Rattle.request.specs.declared.Request.{Request}
 use Rattle.request.specs.Rows.{outside}
 use Rattle.request.specs.Answer.{said}
 use Rattle.request.proofs.Branches.{sizes-2, sizes-3, sizes-4, sizes-5, sizes-clear}
-use borrow.Author.Rules.{rules}
 use Rattle.request.proofs.weigh.weigh_sizes.Goals as goal
 use Rattle.request.proofs.weigh.weigh_sizes.Goals.{Else-outside, Else-q}
 

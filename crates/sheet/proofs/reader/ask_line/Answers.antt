@@ -5,8 +5,6 @@ use mathlib.Core.List.{[], ◌∷◌}
 use native.Mathlib.Omega.{arith}
 use lib.ListN.{length, take}
 use lib.Seq.{length-take-le}
-use borrow.Author.Rules.{rules}
-use Rattle.text.specs.Field.{before}
 use Rattle.text.specs.Line.{taken_of}
 use Rattle.text.proofs.Written.{line_of-was}
 use Rattle.sheet.specs.declared.reader.LineKind.TheVariants.{Ask}

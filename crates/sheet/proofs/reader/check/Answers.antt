@@ -1,12 +1,10 @@
 -- `check`: the first line, and the lines after it. Assumes nothing.
 use Prim.Native.Nat.{ℕ, ◌+◌}
 use mathlib.Core.Path.{◌≡◌, refl, ap, sym, ◌∙◌}
-use mathlib.Core.List.{List, [], ◌∷◌}
+use mathlib.Core.List.{[], ◌∷◌}
 use native.Mathlib.Omega.{arith}
 use lib.ListN.{length, drop}
-use borrow.Author.Rules.{rules}
 use Rattle.text.specs.declared.Line.TheVariants.{Good, Bad}
-use Rattle.text.specs.Field.{before}
 use Rattle.text.specs.Line.{Got, good, taken_of}
 use Rattle.text.proofs.Written.{line_of-was}
 use Rattle.sheet.specs.Grammar.{tab, tracks_word, tracks_line, broken, after_first, sheet_of}

@@ -1,13 +1,11 @@
 -- `check_lines`: what is left of the sheet, after m arcs, says what the whole says. Assumes nothing.
-use Prim.Native.Nat.{ℕ, ◌+◌, ◌-◌, ◌≤◌}
+use Prim.Native.Nat.{◌+◌, ◌≤◌}
 use mathlib.Core.Path.{◌≡◌, refl, ap, sym, ◌∙◌}
-use mathlib.Core.List.{List, []}
 use native.Mathlib.Omega.{arith}
 use lib.ListN.{length, drop, length-drop}
-use borrow.Author.Rules.{rules}
 use Rattle.text.specs.Field.{before}
 use Rattle.text.proofs.Fields.{before-length, rest-is}
-use Rattle.sheet.specs.Grammar.{lf, lines_from}
+use Rattle.sheet.specs.Grammar.{lf}
 use Rattle.sheet.specs.Inside.{form_of}
 use Rattle.sheet.proofs.Scan.{lines-last, lines_none, says-arc, says-neither, says-ask, says-more}
 use Rattle.sheet.proofs.reader.check_lines.Goals as goal

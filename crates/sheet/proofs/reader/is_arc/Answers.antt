@@ -5,8 +5,6 @@ use mathlib.Core.List.{[], ◌∷◌}
 use native.Mathlib.Omega.{arith}
 use lib.ListN.{length, take}
 use lib.Seq.{length-take-le}
-use borrow.Author.Rules.{rules}
-use Rattle.text.specs.Field.{before}
 use Rattle.sheet.specs.Inside.{is_good}
 use Rattle.sheet.proofs.LineKinds.{told-good, told-bad}
 use Rattle.sheet.proofs.reader.is_arc.Goals as goal

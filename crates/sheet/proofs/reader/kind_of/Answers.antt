@@ -2,9 +2,7 @@
 use Prim.Native.Nat.{◌<◌}
 use mathlib.Core.Path.{◌≡◌, sym, ◌∙◌}
 use mathlib.Core.Bool.{false}
-use mathlib.Core.Logic.{⊎_elim}
 use native.Mathlib.Omega.{arith}
-use borrow.Author.Rules.{rules}
 use Rattle.sheet.specs.Grammar.{arc_line}
 use Rattle.sheet.specs.Inside.{is_good}
 use Rattle.sheet.proofs.LineKinds.{kind-arc-told, kind-else-told}
@@ -13,7 +11,7 @@ use Rattle.sheet.proofs.reader.kind_of.Goals.{Joined-m-lt512, then-m-lt512+else-
 
 -- no arc, where there may be one more
 not-arc : (c : Joined-m-lt512) → c.args.m < 512 → is_good (arc_line c.args.d c.args.line.now) ≡ false
-not-arc c h = 
+not-arc c h =
     elim c.if-m-lt512.branch [ then-m-lt512+else-is_arc w ↦ sym w.is_arc.ensures ∙ w.if-is_arc.false | else-m-lt512 w ↦ absurd (omega (arith, w.if-m-lt512.false)) ]
 
 pub returns-then-is_arc : goal.returns-then-is_arc

@@ -1,13 +1,9 @@
 -- `read`: rows 12, 1 and 13 in their order, and then the arcs' words. Assumes nothing.
 use Prim.Native.Nat.{ℕ, ◌+◌, ◌*◌, ◌≤◌}
 use mathlib.Core.Path.{◌≡◌, ap, sym, ◌∙◌}
-use mathlib.Core.List.{List}
 use native.Mathlib.Omega.{arith}
 use native.Mathlib.Nat.{mul-le-mul}
 use lib.ListN.{length}
-use borrow.Author.Rules.{rules}
-use Rattle.text.specs.Field.{before}
-use Rattle.sheet.specs.declared.reader.Form.{Form}
 use Rattle.sheet.specs.declared.reader.Checked.TheVariants.{Whole}
 use Rattle.sheet.specs.declared.Outcome.TheVariants.{Sheet}
 use Rattle.sheet.specs.Grammar.{sheet_of}

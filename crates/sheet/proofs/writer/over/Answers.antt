@@ -1,8 +1,6 @@
 -- `over`: N and d, then the arcs' words, then what is asked. Assumes nothing.
 use mathlib.Core.Path.{ap, sym, ◌∙◌}
 use native.Mathlib.Omega.{arith}
-use borrow.Author.Rules.{rules}
-use Rattle.text.specs.Field.{before}
 use Rattle.text.specs.Number.{any_over}
 use Rattle.sheet.proofs.Puts.{over_first, over-words, over-asks, asks-lent, asks-are}
 use Rattle.sheet.proofs.writer.over.Goals as goal

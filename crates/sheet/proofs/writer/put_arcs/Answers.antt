@@ -5,10 +5,8 @@ use mathlib.Core.List.{List, []}
 use native.Mathlib.Omega.{arith}
 use native.Mathlib.Nat.{add-mul, one-mul, zero-mul, suc-mul, mul-le-mul_right}
 use lib.ListN.{length, take, drop}
-use borrow.Author.Rules.{rules}
 use Rattle.words.specs.Pieces.{write}
 use Rattle.words.proofs.Writes.{write-none}
-use Rattle.text.specs.Field.{before}
 use Rattle.text.specs.Line.{line_text}
 use Rattle.sheet.specs.Grammar.{tab, arc_word}
 use Rattle.sheet.specs.Rendering.{arc_lines}

@@ -1,19 +1,9 @@
 -- `put_arcs`: the first i arcs are written, and the next begins at word p. Assumes nothing.
-use Prim.Native.Nat.{ℕ, ◌+◌, ◌-◌, ◌*◌, ◌≤◌, ◌<◌}
-use mathlib.Core.Path.{◌≡◌, refl, ap, sym, ◌∙◌}
-use mathlib.Core.List.{List, []}
-use native.Mathlib.Omega.{arith}
-use native.Mathlib.Nat.{add-mul, one-mul, zero-mul, suc-mul, mul-le-mul_right}
-use lib.ListN.{length, take, drop}
-use borrow.Author.Rules.{rules}
+use Prim.Native.Nat.{◌+◌, ◌-◌, ◌*◌, ◌≤◌}
+use mathlib.Core.Path.{◌≡◌}
+use lib.ListN.{length}
 use Rattle.words.specs.Pieces.{write}
-use Rattle.words.proofs.Writes.{write-none}
-use Rattle.text.specs.Field.{before}
-use Rattle.text.specs.Line.{line_text}
-use Rattle.sheet.specs.Grammar.{tab, arc_word}
 use Rattle.sheet.specs.Rendering.{arc_lines}
-use Rattle.sheet.proofs.Lengths.{arcs-none, arcs-room}
-use Rattle.sheet.proofs.Puts.{arc-ends, arc-put}
 use Rattle.sheet.proofs.writer.put_arcs.Given as goal
 
 abbrev pub invariant-loop-i : goal.invariant-loop-i

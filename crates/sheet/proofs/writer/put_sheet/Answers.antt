@@ -5,14 +5,11 @@ use mathlib.Core.List.{List}
 use native.Mathlib.Omega.{arith}
 use native.Mathlib.Nat.{zero-add}
 use lib.ListN.{length}
-use borrow.Author.Rules.{rules}
-use Rattle.request.specs.declared.Request.{Request}
-use Rattle.text.specs.Field.{before}
 use Rattle.text.specs.Line.{line_text}
 use Rattle.sheet.specs.Grammar.{tab, ask_word}
 use Rattle.sheet.specs.Writer.{written}
 use Rattle.sheet.proofs.Lengths.{whole-arcs}
-use Rattle.sheet.proofs.Puts.{asks-lent, asks-are, front, middle, back, written-long, written-put}
+use Rattle.sheet.proofs.Puts.{asks-are, front, middle, back, written-long, written-put}
 use Rattle.sheet.proofs.writer.put_sheet.Goals as goal
 use Rattle.sheet.proofs.writer.put_sheet.Goals.{After-put_line-a}
 

@@ -2,8 +2,6 @@
 use Prim.Native.Nat.{◌≤◌}
 use mathlib.Core.Path.{ap}
 use native.Mathlib.Omega.{arith}
-use borrow.Author.Rules.{rules}
-use Rattle.text.specs.Field.{before}
 use Rattle.text.specs.Line.{parted_width}
 use Rattle.sheet.proofs.Lengths.{words-few, written-length}
 use Rattle.sheet.proofs.Puts.{asks-lent, asks-are}

@@ -3,8 +3,6 @@ use Prim.Native.Nat.{ℕ}
 use mathlib.Core.Path.{◌≡◌, ap, sym, ◌∙◌}
 use mathlib.Core.Bool.{false}
 use native.Mathlib.Omega.{arith}
-use borrow.Author.Rules.{rules}
-use Rattle.text.specs.Field.{before}
 use Rattle.text.specs.Number.{any_over}
 use Rattle.sheet.specs.declared.Writing.TheVariants.{Bytes}
 use Rattle.sheet.specs.Writer.{writing_said, numbers_of, Ranged}
