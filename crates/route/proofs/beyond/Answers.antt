@@ -1,5 +1,4 @@
 -- `beyond`: the first test that holds, or the last. Assumes nothing.
-use Prim.Native.Nat.{◌-◌}
 use borrow.Author.Tests.{lt-ltb, le-ltb, le-leb, lt-leb}
 use Rattle.route.proofs.beyond.Goals as goal
 

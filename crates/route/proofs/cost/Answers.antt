@@ -1,9 +1,7 @@
 -- `cost`: a word of the label, or none. Assumes nothing.
-use Prim.Native.Nat.{◌-◌}
 use mathlib.Core.Path.{sym, ◌∙◌}
 use lib.Seq.{get_or-take}
 use Rattle.route.proofs.Reading.{cost-past}
-use borrow.Author.Rules.{rules}
 use Rattle.route.proofs.cost.Goals as goal
 
 pub returns-then-j-d : goal.returns-then-j-d

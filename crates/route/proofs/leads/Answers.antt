@@ -1,11 +1,13 @@
 -- `leads`: the first of the three tests that holds. Assumes nothing.
-use Prim.Native.Nat.{ℕ, ◌-◌}
+use Prim.Native.Nat.{ℕ, ◌+◌, ◌-◌, ◌*◌}
 use mathlib.Core.Path.{◌≡◌, sym, ap, ◌∙◌}
 use mathlib.Core.Bool.{Bool, true, false, cond, not}
 use mathlib.Core.List.{List}
 use lib.ListN.{get_or}
 use lib.Dec.{T}
-use Rattle.request.specs.Request.{Req, asked, arc, tail}
+use Rattle.words.specs.Pieces.{at}
+use Rattle.request.specs.Request.{Req, asked, width, arc, tail}
+use Rattle.request.specs.Shape.{cells}
 use Rattle.rounds.specs.Rounds.{label_in}
 use Rattle.rounds.specs.Label.{step, from}
 use Rattle.route.specs.Chain.{start_holds, kept_holds}
@@ -14,89 +16,92 @@ use Rattle.route.specs.declared.Link.{Link}
 use Rattle.route.specs.declared.Link.TheVariants as link
 use Rattle.route.proofs.Places.{within-before}
 use Rattle.route.proofs.Leading.{label_is, told, told-not, told-two, told-two-not, lead-ends, lead-none, lead-kept, lead_low, lead-arc}
-use borrow.Author.Rules.{rules}
 use Rattle.route.proofs.leads.Goals as goal
-use Rattle.route.proofs.leads.Goals.{After-arc_holds, After-kept_holds, After-start_holds}
+use Rattle.route.proofs.leads.Goals.{After-arc_holds}
 
--- ---- what is known at each point
--- the label, and whether it is a start
-module _ (c : After-start_holds) where
-  abbrev R : Req
-  R = asked c.args.q c.args.arcs.now
+-- ---- what the tests told of the labels that were looked up
 
+-- the label X of the layer, node and cell that were asked for
+module _ (R : Req) (W : List ℕ) (i v c : ℕ) {n : ℕ} (few : n ≡ cells R) {X : List ℕ} (found : X ≡ at (width R) W ((i * R.nodes + v) * n + c)) where
+  own_is : X ≡ label_in R W i v c
+  own_is = label_is R W X n i v c few found
 
-  -- the label of the layer, node and cell that were asked for
-  abbrev own : List ℕ
-  own = label_in R W c.args.i c.args.v c.args.c
+  -- it is a start, or it is none
+  starts : {b : Bool} → b ≡ true → b ≡ start_holds R i X v c → T (start_holds R i (label_in R W i v c) v c)
+  starts t e = told (λ (z : List ℕ). start_holds R i z v c) t e own_is
 
-  -- it is the one that was looked up
-  own_is : c.label-l.result.now ≡ own
-  own_is = let a = c.args in label_is R c.args.labels.now _ a.cells a.i a.v a.c c.requires.cells_value c.label-l.ensures
+  no_start : {b : Bool} → b ≡ false → b ≡ start_holds R i X v c → T (not (start_holds R i (label_in R W i v c) v c))
+  no_start t e = told-not (λ (z : List ℕ). start_holds R i z v c) t e own_is
 
-  -- the test told that it is a start, or that it is none
-  starts : c.start_holds.result ≡ true → T (start_holds R c.args.i own c.args.v c.args.c)
-  starts t = let a = c.args in told (λ (z : List ℕ). start_holds R a.i z a.v a.c) t (c.start_holds.ensures a.arcs.now) own_is
+  -- with the label Y of its node and cell in the layer before
+  module _ {Y : List ℕ} (before : Y ≡ at (width R) W (((i - 1) * R.nodes + v) * n + c)) where
+    old-is : Y ≡ label_in R W (i - 1) v c
+    old-is = label_is R W Y n (i - 1) v c few before
 
-  no_start : c.start_holds.result ≡ false → T (not (start_holds R c.args.i own c.args.v c.args.c))
-  no_start t = let a = c.args in told-not (λ (z : List ℕ). start_holds R a.i z a.v a.c) t (c.start_holds.ensures a.arcs.now) own_is
+    -- it was kept from there, or it was not
+    keeps : {b : Bool} → b ≡ true → b ≡ kept_holds R i X Y → T (kept_holds R i (label_in R W i v c) (label_in R W (i - 1) v c))
+    keeps t e = told-two (kept_holds R i) t e own_is old-is
 
--- the label before it, and whether it was kept from there
-module _ (c : After-kept_holds) where
-  -- the label of its node and cell in the layer before, as it was looked up
-  abbrev old : List ℕ
-  old = let a = c.args in label_in (asked c.args.q c.args.arcs.now) c.args.labels.now (a.i - 1) a.v a.c
+    no-kept : {b : Bool} → b ≡ false → b ≡ kept_holds R i X Y → T (not (kept_holds R i (label_in R W i v c) (label_in R W (i - 1) v c)))
+    no-kept t e = told-two-not (kept_holds R i) t e own_is old-is
 
-  old-is : c.label.result.now ≡ old
-  old-is = let a = c.args in label_is (asked c.args.q c.args.arcs.now) c.args.labels.now _ a.cells (a.i - 1) a.v a.c c.requires.cells_value c.label.ensures
+-- once the label reached by its arc is tested: the link that an answer of that test makes
+abbrev link-by : After-arc_holds → Bool → Link
+link-by c b = cond b (link.Came (c.word-step.result - 3) c.word-tail.result c.word-from.result) link.Fails
 
-  was-no-start : T (not (start_holds (asked c.args.q c.args.arcs.now) c.args.i (label_in R W c.args.i c.args.v c.args.c) c.args.v c.args.c))
-  was-no-start = no_start c c.if-start_holds.false
-
-  -- the test told that it was kept, or that it was not
-  keeps : c.kept_holds.result ≡ true → T (kept_holds (asked c.args.q c.args.arcs.now) c.args.i (label_in R W c.args.i c.args.v c.args.c) old)
-  keeps t = let a = c.args in told-two (kept_holds (asked c.args.q c.args.arcs.now) a.i) t (c.kept_holds.ensures a.arcs.now) (own_is c) old-is
-
-  no-kept : c.kept_holds.result ≡ false → T (not (kept_holds (asked c.args.q c.args.arcs.now) c.args.i (label_in R W c.args.i c.args.v c.args.c) old))
-  no-kept t = let a = c.args in told-two-not (kept_holds (asked c.args.q c.args.arcs.now) a.i) t (c.kept_holds.ensures a.arcs.now) (own_is c) old-is
-
--- its arc, the label reached, and whether it came from there
-module _ (c : After-arc_holds) where
-  -- the link that an answer of the last test makes
-  abbrev link-by : Bool → Link
-  link-by b = cond b (link.Came (c.word-step.result - 3) c.word-tail.result c.word-from.result) link.Fails
-
-  -- is where the label leads
-  link-is : link-by c.arc_holds.result ≡ link_of (asked c.args.q c.args.arcs.now) c.args.labels.now c.args.i c.args.v c.args.c
-  unfolding step from tail arc
-  link-is =
-      let b = in
-      let a = b.args in
-      let w = c.word-step in
-      lead-arc (R b) (c.args.labels.now b) a.i a.v a.c (was-no-start c) (no-kept c c.if-kept_holds.false)
-      c.word-step.result c.word-tail.result c.word-from.result _ _ (own_is b) w.ensures
-      (c.word-tail.ensures ∙ ap (λ (z : List ℕ). get_or z 0 0) c.piece.ensures)
-      c.word-from.ensures
-      (label_is (R b) (c.args.labels.now b) _ a.cells (a.i - 1) c.word-tail.result c.word-from.result b.pre.1.1 c.label-reached.ensures) c.arc_holds.ensures
+-- is where the label leads
+link-is : (c : After-arc_holds) → link-by c c.arc_holds.result ≡ link_of (asked c.args.q c.args.arcs.now) c.args.labels.now c.args.i c.args.v c.args.c
+unfolding step from tail arc
+link-is c =
+    let a = c.args in
+    let R = asked a.q a.arcs.now in
+    let W = a.labels.now in
+    let few = c.requires.cells_value in
+    let own = c.label-l.ensures in
+    lead-arc R W a.i a.v a.c
+    (no_start R W a.i a.v a.c few own c.if-start_holds.false (c.start_holds.ensures a.arcs.now))
+    (no-kept R W a.i a.v a.c few own c.label.ensures c.if-kept_holds.false (c.kept_holds.ensures a.arcs.now))
+    c.word-step.result c.word-tail.result c.word-from.result _ _ (own_is R W a.i a.v a.c few own) c.word-step.ensures
+    (c.word-tail.ensures ∙ ap (λ (z : List ℕ). get_or z 0 0) c.piece.ensures)
+    c.word-from.ensures
+    (label_is R W _ a.cells (a.i - 1) c.word-tail.result c.word-from.result few c.label-reached.ensures) c.arc_holds.ensures
 
 pub returns-then-start_holds : goal.returns-then-start_holds
-returns-then-start_holds c =     let a = c.args in
-    lead-ends (R (goal.at.returns-then-start_holds c).After-start_holds) c.args.labels.now a.i a.v a.c (starts (goal.at.returns-then-start_holds c).After-start_holds c.if-start_holds.true)
+returns-then-start_holds c =
+    let a = c.args in
+    let R = asked a.q a.arcs.now in
+    lead-ends R a.labels.now a.i a.v a.c
+    (starts R a.labels.now a.i a.v a.c c.requires.cells_value c.label-l.ensures c.if-start_holds.true (c.start_holds.ensures a.arcs.now))
 
 pub returns-then-i-eq0 : goal.returns-then-i-eq0
-returns-then-i-eq0 c =     let a = c.args in
-    lead-none (R (goal.at.returns-then-i-eq0 c).After-start_holds) c.args.labels.now a.i a.v a.c (no_start (goal.at.returns-then-i-eq0 c).After-start_holds c.if-start_holds.false) c.if-i-eq0.true
+returns-then-i-eq0 c =
+    let a = c.args in
+    let R = asked a.q a.arcs.now in
+    lead-none R a.labels.now a.i a.v a.c
+    (no_start R a.labels.now a.i a.v a.c c.requires.cells_value c.label-l.ensures c.if-start_holds.false (c.start_holds.ensures a.arcs.now)) c.if-i-eq0.true
 
 pub label-requires : goal.label-requires
 label-requires c = within-before c.requires.within
 
 pub returns-then-kept_holds : goal.returns-then-kept_holds
-returns-then-kept_holds c =         let a = c.args in
-    lead-kept (R (goal.at.returns-then-kept_holds c).After-start_holds) c.args.labels.now a.i a.v a.c (was-no-start (goal.at.returns-then-kept_holds c).After-kept_holds) (keeps (goal.at.returns-then-kept_holds c).After-kept_holds c.if-kept_holds.true)
+returns-then-kept_holds c =
+    let a = c.args in
+    let R = asked a.q a.arcs.now in
+    let few = c.requires.cells_value in
+    lead-kept R a.labels.now a.i a.v a.c
+    (no_start R a.labels.now a.i a.v a.c few c.label-l.ensures c.if-start_holds.false (c.start_holds.ensures a.arcs.now))
+    (keeps R a.labels.now a.i a.v a.c few c.label-l.ensures c.label.ensures c.if-kept_holds.true (c.kept_holds.ensures a.arcs.now))
 
 pub returns-then-step-lt3 : goal.returns-then-step-lt3
 unfolding step
-returns-then-step-lt3 c =         let a = c.args in
-    lead_low (R (goal.at.returns-then-step-lt3 c).After-start_holds) c.args.labels.now a.i a.v a.c (was-no-start (goal.at.returns-then-step-lt3 c).After-kept_holds) (no-kept (goal.at.returns-then-step-lt3 c).After-kept_holds c.if-kept_holds.false) c.word-step.result _ (own_is (goal.at.returns-then-step-lt3 c).After-start_holds) c.word-step.ensures c.if-step-lt3.true
+returns-then-step-lt3 c =
+    let a = c.args in
+    let R = asked a.q a.arcs.now in
+    let few = c.requires.cells_value in
+    lead_low R a.labels.now a.i a.v a.c
+    (no_start R a.labels.now a.i a.v a.c few c.label-l.ensures c.if-start_holds.false (c.start_holds.ensures a.arcs.now))
+    (no-kept R a.labels.now a.i a.v a.c few c.label-l.ensures c.label.ensures c.if-kept_holds.false (c.kept_holds.ensures a.arcs.now))
+    c.word-step.result _ (own_is R a.labels.now a.i a.v a.c few c.label-l.ensures) c.word-step.ensures c.if-step-lt3.true
 
 pub label-reached-requires : goal.label-reached-requires
 label-reached-requires c = within-before c.requires.within
@@ -105,7 +110,11 @@ pub arc_holds-requires : goal.arc_holds-requires
 arc_holds-requires c = let p = c.requires in record { regular = p.regular; criteria_bound = (p.within.criteria_few, p.cells_value) }
 
 pub returns-then-arc_holds : goal.returns-then-arc_holds
-returns-then-arc_holds c = ap (link-by (goal.at.returns-then-arc_holds c).After-arc_holds) (sym c.if-arc_holds.true) ∙ link-is (goal.at.returns-then-arc_holds c).After-arc_holds
+returns-then-arc_holds c =
+    let d = (goal.at.returns-then-arc_holds c).After-arc_holds in
+    ap (link-by d) (sym c.if-arc_holds.true) ∙ link-is d
 
 pub returns : goal.returns
-returns c = ap (link-by (goal.at.returns c).After-arc_holds) (sym c.if-arc_holds.false) ∙ link-is (goal.at.returns c).After-arc_holds
+returns c =
+    let d = (goal.at.returns c).After-arc_holds in
+    ap (link-by d) (sym c.if-arc_holds.false) ∙ link-is d

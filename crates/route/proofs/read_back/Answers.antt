@@ -1,13 +1,10 @@
 -- `read_back`: a refusal of the check, or the read-back of the shape. Assumes nothing.
-use Prim.Native.Nat.{◌-◌}
 use mathlib.Core.Path.{sym, ◌∙◌}
-use native.Mathlib.Omega.{arith}
 use lib.ListN.{length}
 use Rattle.request.specs.Request.{asked}
 use Rattle.request.proofs.Answers.{refused-is, shaped-is}
 use Rattle.route.proofs.Numbers.{early-number}
 use Rattle.route.proofs.Answering.{refused-early, refused_all}
-use borrow.Author.Rules.{rules}
 use Rattle.route.proofs.read_back.Goals as goal
 
 pub read_shaped-requires : goal.read_shaped-requires

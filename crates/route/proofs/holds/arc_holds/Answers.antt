@@ -1,5 +1,5 @@
 -- `arc_holds`: one test after another, and the costs last. Assumes nothing.
-use Prim.Native.Nat.{ℕ, ◌-◌, ◌<◌}
+use Prim.Native.Nat.{ℕ, ◌<◌}
 use mathlib.Core.Path.{◌≡◌, sym, ap, ◌∙◌}
 use mathlib.Core.List.{List}
 use native.Mathlib.Omega.{arith}
@@ -10,14 +10,13 @@ use Rattle.rounds.specs.Label.{costs, step, from, sum}
 use Rattle.request.proofs.Tops.{arc-words}
 use Rattle.route.specs.Chain.{same, agrees, arc_holds}
 use Rattle.route.proofs.Holding.{not-held, not-under, word-inside, Comes, arc-facts, arc-rest, agree-empty, agree-filled}
-use borrow.Author.Rules.{rules}
 use Rattle.route.proofs.holds.arc_holds.Goals as goal
-use Rattle.route.proofs.holds.arc_holds.Goals.{Else-cells-word, Then-arcs-d, Then-cells-word, Then-i-eq0, Then-word-lt3, Then-word-v}
+use Rattle.route.proofs.holds.arc_holds.Goals.{Else-cells-word, Start}
 
 -- ---- what is known at each point
 
 -- what the label has, did it come by the arc
-did : (s : tie.Start) → T (arc_holds (asked s.args.q s.args.arcs.now) s.args.i s.args.l.now s.args.v s.args.a s.args.reached.now)
+did : (s : Start) → T (arc_holds (asked s.args.q s.args.arcs.now) s.args.i s.args.l.now s.args.v s.args.a s.args.reached.now)
     → Comes (asked s.args.q s.args.arcs.now) s.args.i s.args.l.now s.args.v s.args.a s.args.reached.now
 did s t = let a = s.args in arc-facts (asked a.q a.arcs.now) a.i a.l.now a.v a.a a.reached.now t
 
@@ -58,7 +57,7 @@ pub returns-then-word-lt3 : goal.returns-then-word-lt3
 unfolding step
 returns-then-word-lt3 c = not-held _
     (λ t.
-    let s = (did (goal.at.returns-then-word-lt3 c).Then-word-lt3 t).step_is in
+    let s = (did (goal.at.returns-then-word-lt3 c).Start t).step_is in
     let w = c.word.ensures in
     let h = c.if-word-lt3.true in
     absurd (omega arith))
@@ -66,24 +65,24 @@ returns-then-word-lt3 c = not-held _
 pub returns-then-i-eq0 : goal.returns-then-i-eq0
 returns-then-i-eq0 c = not-held _
     (λ t.
-    let s = (did (goal.at.returns-then-i-eq0 c).Then-i-eq0 t).before in
+    let s = (did (goal.at.returns-then-i-eq0 c).Start t).before in
     let h = c.if-i-eq0.true in
     absurd (omega arith))
 
 pub returns-then-arcs-d : goal.returns-then-arcs-d
 unfolding arc_count
-returns-then-arcs-d c = not-held _ (λ t. not-under c.if-arcs-d.true (did (goal.at.returns-then-arcs-d c).Then-arcs-d t).arc_in)
+returns-then-arcs-d c = not-held _ (λ t. not-under c.if-arcs-d.true (did (goal.at.returns-then-arcs-d c).Start t).arc_in)
 
 pub returns-then-word-v : goal.returns-then-word-v
 unfolding head arc
 returns-then-word-v c = not-held _
-    (λ t. c.if-word-v.true (c.word-2.ensures ∙ ap (λ (z : List ℕ). get_or z 1 0) c.piece-arc.ensures ∙ (did (goal.at.returns-then-word-v c).Then-word-v t).head_is))
+    (λ t. c.if-word-v.true (c.word-2.ensures ∙ ap (λ (z : List ℕ). get_or z 1 0) c.piece-arc.ensures ∙ (did (goal.at.returns-then-word-v c).Start t).head_is))
 
 pub returns-then-cells-word : goal.returns-then-cells-word
 unfolding from
 returns-then-cells-word c = not-held _
     (λ t.
-    let s = (did (goal.at.returns-then-cells-word c).Then-cells-word t).from_in in
+    let s = (did (goal.at.returns-then-cells-word c).Start t).from_in in
     let w = c.word-3.ensures in
     let h = c.if-cells-word.true in
     let z = c.requires.criteria_bound.1 in

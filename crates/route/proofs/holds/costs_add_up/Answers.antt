@@ -1,27 +1,14 @@
 -- `costs_add_up`: the costs so far are the sums. Assumes nothing.
-use Prim.Native.Nat.{ℕ, ◌+◌, ◌-◌, ◌≤◌, ◌<◌}
+use Prim.Native.Nat.{◌+◌}
 use mathlib.Core.Path.{◌≡◌}
 use native.Mathlib.Omega.{arith}
 use lib.ListN.{get_or}
 use Rattle.route.proofs.Comparing.{sum-yes, sum-no}
-use borrow.Author.Rules.{rules}
 use Rattle.words.proofs.Loops.{below_next}
 use Rattle.route.proofs.holds.costs_add_up.Goals as goal
 
 pub loop-j-init : goal.loop-j-init
 loop-j-init c = (omega arith, λ k l. absurd (omega arith))
-
-pub overflow_cast-sum : goal.overflow_cast-sum
-overflow_cast-sum c = omega (arith, c.shared_slice_known-1.given c.loop-j.j)
-
-pub overflow_cast-sum-in-loop-j : goal.overflow_cast-sum-in-loop-j
-overflow_cast-sum-in-loop-j c = omega (arith, c.shared_slice_known-in-loop-j-1.given (c.loop-j.j + 2))
-
-pub overflow_add-sum-in-loop-j : goal.overflow_add-sum-in-loop-j
-overflow_add-sum-in-loop-j c = omega (arith, c.shared_slice_known-in-loop-j-1.given (c.loop-j.j + 2), c.shared_slice_known-1.given c.loop-j.j)
-
-pub overflow_cast-l : goal.overflow_cast-l
-overflow_cast-l c = omega (arith, c.shared_slice_known-in-loop-j-2-1.given c.loop-j.j)
 
 pub returns-then-l-j : goal.returns-then-l-j
 returns-then-l-j c = let a = c.args in

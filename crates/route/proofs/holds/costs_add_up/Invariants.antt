@@ -1,11 +1,7 @@
 -- `costs_add_up`: the costs so far are the sums. Assumes nothing.
 use Prim.Native.Nat.{ℕ, ◌+◌, ◌-◌, ◌≤◌, ◌<◌}
 use mathlib.Core.Path.{◌≡◌}
-use native.Mathlib.Omega.{arith}
 use lib.ListN.{get_or}
-use Rattle.route.proofs.Comparing.{sum-yes, sum-no}
-use borrow.Author.Rules.{rules}
-use Rattle.words.proofs.Loops.{below_next}
 use Rattle.route.proofs.holds.costs_add_up.Given as goal
 
 abbrev pub invariant-loop-j : goal.invariant-loop-j

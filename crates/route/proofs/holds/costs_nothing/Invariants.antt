@@ -1,11 +1,7 @@
 -- `costs_nothing`: the costs so far are 0. Assumes nothing.
 use Prim.Native.Nat.{ℕ, ◌-◌, ◌≤◌, ◌<◌}
 use mathlib.Core.Path.{◌≡◌}
-use native.Mathlib.Omega.{arith}
 use lib.ListN.{get_or}
-use Rattle.route.proofs.Comparing.{nothing-yes, nothing-no}
-use borrow.Author.Rules.{rules}
-use Rattle.words.proofs.Loops.{below_next}
 use Rattle.route.proofs.holds.costs_nothing.Given as goal
 
 abbrev pub invariant-loop-j : goal.invariant-loop-j

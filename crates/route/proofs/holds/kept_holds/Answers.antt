@@ -1,5 +1,5 @@
 -- `kept_holds`: one test after another, and the costs last. Assumes nothing.
-use Prim.Native.Nat.{ℕ, ◌-◌, ◌<◌}
+use Prim.Native.Nat.{ℕ, ◌<◌}
 use mathlib.Core.Path.{◌≡◌, sym, ◌∙◌}
 use mathlib.Core.List.{List}
 use lib.ListN.{length}
@@ -9,14 +9,13 @@ use Rattle.request.specs.Request.{asked}
 use Rattle.rounds.specs.Label.{costs, step, from}
 use Rattle.route.specs.Chain.{agrees, kept_holds}
 use Rattle.route.proofs.Holding.{not-held, word-inside, Keeps, kept-facts, kept-rest, agree-empty, agree-filled}
-use borrow.Author.Rules.{rules}
 use Rattle.route.proofs.holds.kept_holds.Goals as goal
-use Rattle.route.proofs.holds.kept_holds.Goals.{Else-word-ne0, Then-i-eq0, Then-word-ne0, Then-word-ne2}
+use Rattle.route.proofs.holds.kept_holds.Goals.{Else-word-ne0, Start}
 
 -- ---- what is known at each point
 
 -- what the label has, were it a kept one
-were : (s : tie.Start) (arcs : List ℕ) → T (kept_holds (asked s.args.q arcs) s.args.i s.args.l.now s.args.reached.now)
+were : (s : Start) (arcs : List ℕ) → T (kept_holds (asked s.args.q arcs) s.args.i s.args.l.now s.args.reached.now)
     → Keeps (asked s.args.q arcs) s.args.i s.args.l.now s.args.reached.now
 were s arcs t = let a = s.args in kept-facts (asked a.q arcs) a.i a.l.now a.reached.now t
 
@@ -42,14 +41,14 @@ module _ (c : Else-word-ne0) where
 
 pub returns-then-word-ne2 : goal.returns-then-word-ne2
 unfolding step
-returns-then-word-ne2 c = λ arcs. not-held _ (λ t. c.if-word-ne2.true (c.word.ensures ∙ (were (goal.at.returns-then-word-ne2 c).Then-word-ne2 arcs t).step_is))
+returns-then-word-ne2 c = λ arcs. not-held _ (λ t. c.if-word-ne2.true (c.word.ensures ∙ (were (goal.at.returns-then-word-ne2 c).Start arcs t).step_is))
 
 pub returns-then-i-eq0 : goal.returns-then-i-eq0
-returns-then-i-eq0 c = λ arcs. not-held _ (λ t. let z = (were (goal.at.returns-then-i-eq0 c).Then-i-eq0 arcs t).before in absurd (omega arith))
+returns-then-i-eq0 c = λ arcs. not-held _ (λ t. let z = (were (goal.at.returns-then-i-eq0 c).Start arcs t).before in absurd (omega arith))
 
 pub returns-then-word-ne0 : goal.returns-then-word-ne0
 unfolding from
-returns-then-word-ne0 c = λ arcs. not-held _ (λ t. c.if-word-ne0.true (c.word-2.ensures ∙ (were (goal.at.returns-then-word-ne0 c).Then-word-ne0 arcs t).from_is))
+returns-then-word-ne0 c = λ arcs. not-held _ (λ t. c.if-word-ne0.true (c.word-2.ensures ∙ (were (goal.at.returns-then-word-ne0 c).Start arcs t).from_is))
 
 pub returns-then-word-eq0 : goal.returns-then-word-eq0
 unfolding step

@@ -1,8 +1,7 @@
 -- `label`: its place does not wrap. Assumes nothing.
-use Prim.Native.Nat.{◌+◌, ◌-◌, ◌*◌, ◌≤◌}
+use Prim.Native.Nat.{◌+◌, ◌*◌, ◌≤◌}
 use native.Mathlib.Omega.{arith}
 use Rattle.route.proofs.Places.{label-fits}
-use borrow.Author.Rules.{rules}
 use Rattle.route.proofs.holds.label.Goals as goal
 use Rattle.route.proofs.holds.label.Goals.{Start}
 

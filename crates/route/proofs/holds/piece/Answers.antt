@@ -1,8 +1,6 @@
 -- `piece`: what the buffer has of it. Assumes nothing.
-use Prim.Native.Nat.{◌-◌}
 use native.Mathlib.Omega.{arith}
 use Rattle.route.proofs.Places.{piece-fits, piece-none, piece-some}
-use borrow.Author.Rules.{rules}
 use Rattle.words.proofs.Pieces.{piece-part}
 use Rattle.route.proofs.holds.piece.Goals as goal
 

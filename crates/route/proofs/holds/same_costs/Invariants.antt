@@ -1,11 +1,7 @@
 -- `same_costs`: the costs so far are the same. Assumes nothing.
 use Prim.Native.Nat.{ℕ, ◌-◌, ◌≤◌, ◌<◌}
 use mathlib.Core.Path.{◌≡◌}
-use native.Mathlib.Omega.{arith}
 use lib.ListN.{get_or}
-use Rattle.route.proofs.Comparing.{alike-yes, alike-no}
-use borrow.Author.Rules.{rules}
-use Rattle.words.proofs.Loops.{below_next}
 use Rattle.route.proofs.holds.same_costs.Given as goal
 
 abbrev pub invariant-loop-j : goal.invariant-loop-j

@@ -1,5 +1,5 @@
 -- `start_holds`: one test after another, and the costs last. Assumes nothing.
-use Prim.Native.Nat.{ℕ, ◌-◌, ◌<◌}
+use Prim.Native.Nat.{ℕ, ◌<◌}
 use mathlib.Core.Path.{sym, ◌∙◌}
 use mathlib.Core.List.{List}
 use lib.ListN.{length}
@@ -9,7 +9,6 @@ use Rattle.request.specs.Request.{asked}
 use Rattle.rounds.specs.Label.{costs, step, from}
 use Rattle.route.specs.Chain.{start_holds}
 use Rattle.route.proofs.Holding.{not-held, word-inside, Starts, start-facts, start-rest}
-use borrow.Author.Rules.{rules}
 use Rattle.route.proofs.holds.start_holds.Goals as goal
 use Rattle.route.proofs.holds.start_holds.Goals.{Else-c-ne0, Start}
 
