@@ -7,28 +7,26 @@ use lib.Seq.{length-take-le, take_at}
 use Rattle.words.specs.Pieces.{part, write}
 use Rattle.words.proofs.Writes.{length_part}
 use Rattle.labels.specs.Words.{Seeks, FoundAt}
-use Rattle.tries.specs.Frame.{offered, extended}
+use Rattle.tries.specs.declared.Frame.{Frame}
+use Rattle.tries.specs.Frame.{Sized, offered, extended}
 use Rattle.tries.proofs.Offering.{made-law}
-use borrow.Author.Rules.{rules}
 use native.Mathlib.Omega.{arith}
 use Rattle.tries.proofs.extend.Goals as goal
-use Rattle.tries.proofs.extend.Goals.{After-add_costs, Start}
+use Rattle.tries.proofs.extend.Goals.{After-add_costs}
 
--- where the label's and the arc's words are, and how many
-module _ (s : Start) where
-  -- a label fits into the scratch words
-  abbrev scratch : List ℕ
-  scratch = 0 ∷ 0 ∷ 0 ∷ 0 ∷ 0 ∷ []
+-- a label fits into the scratch words
+abbrev scratch : List ℕ
+scratch = 0 ∷ 0 ∷ 0 ∷ 0 ∷ 0 ∷ []
 
-  front_long : length (take s.args.s.w scratch) ≡ s.args.s.w
-  front_long = length-take-le s.args.s.w scratch (omega (arith, s.requires.sized.words, s.requires.sized.few))
+front_long : (s : Frame) → Sized s → length (take s.w scratch) ≡ s.w
+front_long s z = length-take-le s.w scratch (omega (arith, z.words, z.few))
 
 -- the scratch words after `add_costs`
 module _ (c : After-add_costs) where
   scratch-long : length c.add_costs.new.out ≡ c.args.s.w
-  scratch-long = c.add_costs.auto.out ∙ front_long c
+  scratch-long = c.add_costs.auto.out ∙ front_long c.args.s c.requires.sized
 
-  scratch-front : take c.args.s.w (c.add_costs.new.out ++ drop c.args.s.w (0 ∷ 0 ∷ 0 ∷ 0 ∷ 0 ∷ [])) ≡ c.add_costs.new.out
+  scratch-front : take c.args.s.w (c.add_costs.new.out ++ drop c.args.s.w scratch) ≡ c.add_costs.new.out
   scratch-front = take_at c.add_costs.new.out _ c.args.s.w scratch-long
 
   -- they hold the candidate
@@ -36,40 +34,40 @@ module _ (c : After-add_costs) where
   scratch-is = let a = c.args in made-law a.s.d a.s.w a.at a.a a.c a.labels.now a.arcs.now c.add_costs.new.out c.add_costs.ensures
 
 pub overflow_add-end : goal.overflow_add-end
-overflow_add-end c = omega (arith, (c.requires.sized, c.requires.extends))
+overflow_add-end c = omega (arith, c.requires.sized, c.requires.extends)
 
 pub overflow_mul-arc_at : goal.overflow_mul-arc_at
-overflow_mul-arc_at c = omega (arith, (c.requires.sized, c.requires.extends))
+overflow_mul-arc_at c = omega (arith, c.requires.sized, c.requires.extends)
 
 pub overflow_add-arc_end : goal.overflow_add-arc_end
-overflow_add-arc_end c = omega (arith, (c.requires.sized, c.requires.extends))
+overflow_add-arc_end c = omega (arith, c.requires.sized, c.requires.extends)
 
 pub slice_bounds-cand-end : goal.slice_bounds-cand-end
-slice_bounds-cand-end c = omega (arith, (c.requires.sized, c.requires.extends))
+slice_bounds-cand-end c = omega (arith, c.requires.sized, c.requires.extends)
 
 pub slice_bounds-add_costs-end : goal.slice_bounds-add_costs-end
-slice_bounds-add_costs-end c = sym (front_long (goal.at.slice_bounds-add_costs-end c).Start)
+slice_bounds-add_costs-end c = sym (front_long c.args.s c.requires.sized)
 
 pub offset_bounds-labels-at : goal.offset_bounds-labels-at
-offset_bounds-labels-at c = omega (arith, (c.requires.sized, c.requires.extends))
+offset_bounds-labels-at c = omega (arith, c.requires.sized, c.requires.extends)
 
 pub slice_bounds-add_costs-end-2 : goal.slice_bounds-add_costs-end-2
-slice_bounds-add_costs-end-2 c = omega (arith, (c.requires.sized, c.requires.extends))
+slice_bounds-add_costs-end-2 c = omega (arith, c.requires.sized, c.requires.extends)
 
 pub offset_bounds-arcs-arc_at : goal.offset_bounds-arcs-arc_at
-offset_bounds-arcs-arc_at c = omega (arith, (c.requires.sized, c.requires.extends))
+offset_bounds-arcs-arc_at c = omega (arith, c.requires.sized, c.requires.extends)
 
 pub slice_bounds-add_costs-end-3 : goal.slice_bounds-add_costs-end-3
-slice_bounds-add_costs-end-3 c = omega (arith, (c.requires.sized, c.requires.extends))
+slice_bounds-add_costs-end-3 c = omega (arith, c.requires.sized, c.requires.extends)
 
 pub overflow_add-a : goal.overflow_add-a
-overflow_add-a c = omega (arith, (c.requires.sized, c.requires.extends))
+overflow_add-a c = omega (arith, c.requires.sized, c.requires.extends)
 
 pub overflow_cast-a : goal.overflow_cast-a
-overflow_cast-a c = omega (arith, (c.requires.sized, c.requires.extends))
+overflow_cast-a c = omega (arith, c.requires.sized, c.requires.extends)
 
 pub overflow_cast-c : goal.overflow_cast-c
-overflow_cast-c c = omega (arith, (c.requires.sized, c.requires.extends))
+overflow_cast-c c = omega (arith, c.requires.sized, c.requires.extends)
 
 pub add_costs-requires : goal.add_costs-requires
 add_costs-requires c = let a = c.args in
@@ -78,7 +76,7 @@ add_costs-requires c = let a = c.args in
     let e1 : a.at + a.s.w - a.at ≡ a.s.w = omega arith in
     let e2 : a.a * a.s.w + a.s.w - a.a * a.s.w ≡ a.s.w = omega arith in
     record {
-      out_long = front_long (goal.at.add_costs-requires c).Start ∙ w;
+      out_long = front_long c.args.s c.requires.sized ∙ w;
       lab_long = length_part a.labels.now a.at (a.at + a.s.w - a.at) (omega (arith, x.below, x.inside)) ∙ e1 ∙ w;
       arc_long = length_part a.arcs.now (a.a * a.s.w) (a.a * a.s.w + a.s.w - a.a * a.s.w) (omega (arith, x.in_arcs)) ∙ e2 ∙ w;
       small = λ k l. subst (λ (m : ℕ). get_or (part a.labels.now a.at m) k 0 + get_or (part a.arcs.now (a.a * a.s.w) (a.a * a.s.w + a.s.w - a.a * a.s.w)) (k + 2) 0 ≤ 63000000) (sym e1)

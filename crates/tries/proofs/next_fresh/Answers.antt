@@ -1,11 +1,9 @@
 -- `next_fresh`. The loop's invariant: the cells from c up to i are quiet (`Past`). Assumes nothing.
 use mathlib.Core.Path.{sym, ◌∙◌}
-use Prim.Native.Nat.{◌+◌, ◌-◌, ◌*◌, ◌≤◌}
+use Prim.Native.Nat.{◌+◌, ◌*◌, ◌≤◌}
 use lib.ListN.{length}
-use Rattle.words.proofs.Choices.{not-true, not-false}
 use Rattle.rounds.proofs.Labels.{block-few}
-use Rattle.tries.proofs.Fresh.{Past, none-past, all_past, step_in, found, one-past}
-use borrow.Author.Rules.{rules}
+use Rattle.tries.proofs.Fresh.{none-past, all_past, step_in, found, one-past}
 use native.Mathlib.Omega.{arith}
 use Rattle.tries.proofs.next_fresh.Goals as goal
 use Rattle.tries.proofs.next_fresh.Goals.{In-loop-i, Start}
@@ -38,7 +36,7 @@ pub returns-then-not-is_quiet : goal.returns-then-not-is_quiet
 returns-then-not-is_quiet c = let a = c.args in
     let l = c.loop-i in
     let q = c.is_quiet in
-    found a.d a.block.now a.c a.high l.at l.i c.requires.3 l.invariant c.loop-i-test.true (sym q.ensures ∙ not-true q.result c.if-not-is_quiet.true)
+    found a.d a.block.now a.c a.high l.at l.i c.requires.3 l.invariant c.loop-i-test.true (sym q.ensures ∙ c.if-not-is_quiet.true)
 
 pub overflow_add-at-in-loop-i : goal.overflow_add-at-in-loop-i
 overflow_add-at-in-loop-i c = omega (arith, c.requires.0, inside (goal.at.overflow_add-at-in-loop-i c).In-loop-i)
@@ -50,7 +48,7 @@ pub loop-i-preserved : goal.loop-i-preserved
 loop-i-preserved c = let a = c.args in
     let l = c.loop-i in
     let q = c.is_quiet in
-    one-past a.d a.block.now a.c a.high l.at l.i c.requires.3 l.invariant c.loop-i-test.true (sym q.ensures ∙ not-false q.result c.if-not-is_quiet.false)
+    one-past a.d a.block.now a.c a.high l.at l.i c.requires.3 l.invariant c.loop-i-test.true (sym q.ensures ∙ c.if-not-is_quiet.false)
 
 pub returns : goal.returns
 returns c = let l = c.loop-i in

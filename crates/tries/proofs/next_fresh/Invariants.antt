@@ -1,12 +1,6 @@
 -- `next_fresh`. The loop's invariant: the cells from c up to i are quiet (`Past`). Assumes nothing.
-use mathlib.Core.Path.{sym, ◌∙◌}
-use Prim.Native.Nat.{◌+◌, ◌-◌, ◌*◌, ◌≤◌}
-use lib.ListN.{length}
-use Rattle.words.proofs.Choices.{not-true, not-false}
-use Rattle.rounds.proofs.Labels.{block-few}
-use Rattle.tries.proofs.Fresh.{Past, none-past, all_past, step_in, found, one-past}
-use borrow.Author.Rules.{rules}
-use native.Mathlib.Omega.{arith}
+use Prim.Native.Nat.{◌-◌}
+use Rattle.tries.proofs.Fresh.{Past}
 use Rattle.tries.proofs.next_fresh.Given as goal
 
 abbrev pub invariant-loop-i : goal.invariant-loop-i

@@ -2,7 +2,6 @@
 use Prim.Native.Nat.{◌-◌}
 use lib.ListN.{get_or}
 use Rattle.words.proofs.Radix.{radix-lt}
-use borrow.Author.Rules.{rules}
 use native.Mathlib.Omega.{arith}
 use Rattle.tries.proofs.offer_found.Goals as goal
 

@@ -2,8 +2,7 @@
 use Prim.Native.Nat.{◌-◌, ◌<◌}
 use lib.ListN.{length, get_or}
 use native.Mathlib.Nat.{mod-lt}
-use Rattle.tries.proofs.Digits.{Digits, none-divided, one-divided}
-use borrow.Author.Rules.{rules}
+use Rattle.tries.proofs.Digits.{none-divided, one-divided}
 use native.Mathlib.Omega.{arith}
 use Rattle.tries.proofs.places_of.Goals as goal
 use Rattle.tries.proofs.places_of.Goals.{In-loop-j}
@@ -19,12 +18,6 @@ module _ (b : In-loop-j) where
 
 pub loop-j-init : goal.loop-j-init
 loop-j-init c = none-divided c.args.counts c.args.graded c.args.places.now c.requires.1
-
-pub offset_bounds-counts-j : goal.offset_bounds-counts-j
-offset_bounds-counts-j c = omega (arith, in_two (goal.at.offset_bounds-counts-j c).In-loop-j)
-
-pub bounds-counts-j : goal.bounds-counts-j
-bounds-counts-j c = omega (arith, in_two (goal.at.bounds-counts-j c).In-loop-j)
 
 pub nonzero_rem-places : goal.nonzero_rem-places
 nonzero_rem-places c = some (goal.at.nonzero_rem-places c).In-loop-j

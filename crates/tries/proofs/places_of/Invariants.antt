@@ -1,10 +1,5 @@
 -- `places_of`. The loop's invariant: the places from j on are within their counts (`Digits`). Assumes nothing.
-use Prim.Native.Nat.{◌-◌, ◌<◌}
-use lib.ListN.{length, get_or}
-use native.Mathlib.Nat.{mod-lt}
-use Rattle.tries.proofs.Digits.{Digits, none-divided, one-divided}
-use borrow.Author.Rules.{rules}
-use native.Mathlib.Omega.{arith}
+use Rattle.tries.proofs.Digits.{Digits}
 use Rattle.tries.proofs.places_of.Given as goal
 
 abbrev pub invariant-loop-j : goal.invariant-loop-j
