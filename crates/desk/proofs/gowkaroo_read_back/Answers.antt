@@ -17,15 +17,19 @@ pack_refusal-requires c = let a = c.args in
 
 pub returns-in-Refused : goal.returns-in-Refused
 returns-in-Refused c = let a = c.args in
-    let w = rw c.request_from-from.ensures at (c.read_back-back.ensures.ending_value, c.read_back-back.ensures.costs_value, c.read_back-back.ensures.route_after) in
-    let e = sym w.0 ∙ c.in-Refused.is in record { value = c.pack_refusal.ensures ∙ ap (λ (x : Ending). packed (ending_said x)) (sym e); costs_after = costs-refused _ a.labels.now (length a.route.now) a.layer a.node a.cell a.costs.now _ e; route_after = w.1.1 }
+    let ending = rw c.request_from-from.ensures at c.read_back-back.ensures.ending_value in
+    let route = rw c.request_from-from.ensures at c.read_back-back.ensures.route_after in
+    let e = sym ending ∙ c.in-Refused.is in record { value = c.pack_refusal.ensures ∙ ap (λ (x : Ending). packed (ending_said x)) (sym e); costs_after = costs-refused _ a.labels.now (length a.route.now) a.layer a.node a.cell a.costs.now _ e; route_after = route }
 
 pub returns-in-Empty : goal.returns-in-Empty
 returns-in-Empty c = let a = c.args in
-    let w = rw c.request_from-from.ensures at (c.read_back-back.ensures.ending_value, c.read_back-back.ensures.costs_value, c.read_back-back.ensures.route_after) in
-    let e = sym w.0 ∙ c.in-Empty.is in record { value = c.pack.ensures ∙ packed-refusal 15 0 ∙ ap (λ (x : Ending). packed (ending_said x)) (sym e); costs_after = costs-empty _ a.labels.now (length a.route.now) a.layer a.node a.cell a.costs.now e; route_after = w.1.1 }
+    let ending = rw c.request_from-from.ensures at c.read_back-back.ensures.ending_value in
+    let route = rw c.request_from-from.ensures at c.read_back-back.ensures.route_after in
+    let e = sym ending ∙ c.in-Empty.is in record { value = c.pack.ensures ∙ packed-refusal 15 0 ∙ ap (λ (x : Ending). packed (ending_said x)) (sym e); costs_after = costs-empty _ a.labels.now (length a.route.now) a.layer a.node a.cell a.costs.now e; route_after = route }
 
 pub returns-in-Route : goal.returns-in-Route
 returns-in-Route c = let a = c.args in
-    let w = rw c.request_from-from.ensures at (c.read_back-back.ensures.ending_value, c.read_back-back.ensures.costs_value, c.read_back-back.ensures.route_after) in
-    let e = sym w.0 ∙ c.in-Route.is in record { value = c.pack-in-Route.ensures ∙ count-packed _ _ (ap ending_said (sym e)); costs_after = w.1.0 ∙ costs-route _ a.labels.now (length a.route.now) a.layer a.node a.cell a.costs.now _ e; route_after = w.1.1 }
+    let ending = rw c.request_from-from.ensures at c.read_back-back.ensures.ending_value in
+    let costs = rw c.request_from-from.ensures at c.read_back-back.ensures.costs_value in
+    let route = rw c.request_from-from.ensures at c.read_back-back.ensures.route_after in
+    let e = sym ending ∙ c.in-Route.is in record { value = c.pack-in-Route.ensures ∙ count-packed _ _ (ap ending_said (sym e)); costs_after = costs ∙ costs-route _ a.labels.now (length a.route.now) a.layer a.node a.cell a.costs.now _ e; route_after = route }
