@@ -1,6 +1,5 @@
 -- `block_at`: 64 blocks of at most 6,000,000 words. Assumes nothing.
 use native.Mathlib.Nat.{mul-le-mul}
-use borrow.Author.Rules.{rules}
 use native.Mathlib.Omega.{arith}
 use Rattle.table.proofs.block_at.Goals as goal
 

@@ -4,7 +4,6 @@ use lib.ListN.{length}
 use Rattle.request.specs.Request.{asked}
 use Rattle.request.proofs.Answers.{refused-is, shaped-is}
 use Rattle.table.proofs.Building.{refused-early, refused_all}
-use borrow.Author.Rules.{rules}
 use Rattle.table.proofs.build.Goals as goal
 
 pub build_shaped-requires : goal.build_shaped-requires

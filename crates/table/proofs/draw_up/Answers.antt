@@ -7,7 +7,7 @@ use lib.ListN.{length}
 use lib.Dec.{eqb}
 use Rattle.words.specs.Pieces.{write, join}
 use Rattle.words.proofs.Writes.{length-write}
-use Rattle.request.specs.Request.{Req, asked, width}
+use Rattle.request.specs.Request.{asked, width}
 use Rattle.rounds.specs.Rounds.{span, start_layer}
 use Rattle.rounds.proofs.Start.{cells-pos}
 use Rattle.tries.specs.declared.Frame.{Frame}
@@ -17,10 +17,9 @@ use Rattle.table.specs.Build.{start_words}
 use Rattle.table.proofs.Keeping.{layer-size}
 use Rattle.table.proofs.Starting.{layer_is}
 use Rattle.table.proofs.Layers.{one-layer, start-stands, over-start}
-use borrow.Author.Rules.{rules}
 use native.Mathlib.Omega.{arith}
 use Rattle.table.proofs.draw_up.Goals as goal
-use Rattle.table.proofs.draw_up.Goals.{After-start_layer, Start}
+use Rattle.table.proofs.draw_up.Goals.{After-start_layer}
 
 module _ (s : Frame) (arcs ladders : List ℕ) (f : Framed (asked s.request arcs) s ladders) where
   -- a block holds a label at least
@@ -37,10 +36,6 @@ module _ (s : Frame) (arcs ladders : List ℕ) (f : Framed (asked s.request arcs
       ∙ ap₂ (λ (n d : ℕ). write xs 0 (join (λ v. start_words n d (eqb v s.request.source)) s.request.nodes)) (span-is (asked s.request arcs) s ladders f) f.d_is
       ∙ ap (write xs 0) (layer_is (asked s.request arcs) one_label)
 
--- the request that was framed
-abbrev R-of : Start → Req
-R-of s = asked s.args.s.request s.args.arcs.now
-
 -- once layer 0 was written
 module _ (c : After-start_layer) where
   -- it stands at the front of the labels
@@ -56,12 +51,12 @@ overflow_cast-source c = let f = c.requires.framed in omega (arith, f.bounded.no
 pub start_layer-requires : goal.start_layer-requires
 start_layer-requires c = let a = c.args in
     let f = c.requires.framed in (
-      omega (arith, c.requires.arcs_in_bounds, layer-size a.s a.arcs.now a.ladders.now f, one-layer (R-of (goal.at.start_layer-requires c).Start) f.regular),
-      omega (arith, f.d_is, span-is (R-of (goal.at.start_layer-requires c).Start) a.s a.ladders.now f, one_label a.s a.arcs.now a.ladders.now f),
+      omega (arith, c.requires.arcs_in_bounds, layer-size a.s a.arcs.now a.ladders.now f, one-layer (asked c.args.s.request c.args.arcs.now) f.regular),
+      omega (arith, f.d_is, span-is (asked c.args.s.request c.args.arcs.now) a.s a.ladders.now f, one_label a.s a.arcs.now a.ladders.now f),
     )
 
 pub run_rounds-requires : goal.run_rounds-requires
-run_rounds-requires c = let n = ap length (written (goal.at.run_rounds-requires c).After-start_layer) ∙ length-write c.args.labels.now 0 (start_layer (R-of (goal.at.run_rounds-requires c).Start)) in record { framed = c.requires.framed; arcs_in_bounds = (omega (arith, n, c.requires.arcs_in_bounds), start-stands (R-of (goal.at.run_rounds-requires c).Start) c.requires.framed.regular c.args.labels.now c.start_layer.new.labels (written (goal.at.run_rounds-requires c).After-start_layer) c.requires.arcs_in_bounds) }
+run_rounds-requires c = let n = ap length (written (goal.at.run_rounds-requires c).After-start_layer) ∙ length-write c.args.labels.now 0 (start_layer (asked c.args.s.request c.args.arcs.now)) in record { framed = c.requires.framed; arcs_in_bounds = (omega (arith, n, c.requires.arcs_in_bounds), start-stands (asked c.args.s.request c.args.arcs.now) c.requires.framed.regular c.args.labels.now c.start_layer.new.labels (written (goal.at.run_rounds-requires c).After-start_layer) c.requires.arcs_in_bounds) }
 
 pub returns : goal.returns
-returns c = let y = c.run_rounds in record { labels_after = y.ensures.labels_after ∙ over-start (R-of (goal.at.returns c).Start) c.requires.framed.regular c.args.labels.now c.start_layer.new.labels (written (goal.at.returns c).After-start_layer) c.requires.arcs_in_bounds; value = y.ensures.value }
+returns c = let y = c.run_rounds in record { labels_after = y.ensures.labels_after ∙ over-start (asked c.args.s.request c.args.arcs.now) c.requires.framed.regular c.args.labels.now c.start_layer.new.labels (written (goal.at.returns c).After-start_layer) c.requires.arcs_in_bounds; value = y.ensures.value }

@@ -5,7 +5,6 @@ use mathlib.Core.List.{[], ◌∷◌}
 use lib.ListN.{get_or}
 use Rattle.words.proofs.Loops.{total-zero, total-suc}
 use Rattle.table.specs.Build.{ladder_words}
-use borrow.Author.Rules.{rules}
 use native.Mathlib.Omega.{arith}
 use Rattle.table.proofs.ladder_words.Goals as goal
 

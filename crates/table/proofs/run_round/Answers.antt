@@ -6,7 +6,6 @@ use Rattle.rounds.specs.Rounds.{keep_all}
 use Rattle.table.proofs.Keeping.{layer-words, kept-layer, layer-notes}
 use Rattle.table.proofs.Passing.{layer_words, layered-later}
 use Rattle.table.proofs.Layers.{kept_here, notes-here, round-law, round-tries}
-use borrow.Author.Rules.{rules}
 use native.Mathlib.Omega.{arith}
 use Rattle.table.proofs.run_round.Goals as goal
 use Rattle.table.proofs.run_round.Goals.{After-keep_layer}

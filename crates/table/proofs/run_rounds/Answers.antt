@@ -1,6 +1,6 @@
 -- `run_rounds`. The loop's invariant: layers 0 to i stand at the front (`Drawn`). Assumes nothing.
 use mathlib.Core.Path.{◌≡◌, sym, ap, ◌∙◌, subst}
-use Prim.Native.Nat.{ℕ, ◌+◌, ◌-◌, ◌*◌, ◌≤◌}
+use Prim.Native.Nat.{ℕ, ◌+◌, ◌*◌, ◌≤◌}
 use native.Mathlib.Nat.{mul-le-mul}
 use lib.ListN.{length}
 use mathlib.Core.List.{List}
@@ -16,7 +16,6 @@ use Rattle.table.specs.Build.{Layered}
 use Rattle.table.proofs.Keeping.{layer-size}
 use Rattle.table.proofs.Passing.{layer_words}
 use Rattle.table.proofs.Layers.{Drawn, first-drawn, drawn-length, next-layered, next_drawn, all-drawn}
-use borrow.Author.Rules.{rules}
 use native.Mathlib.Omega.{arith}
 use Rattle.table.proofs.run_rounds.Goals as goal
 use Rattle.table.proofs.run_rounds.Goals.{At-loop-i, In-loop-i}

@@ -5,7 +5,6 @@ use mathlib.Core.Bool.{Bool, true, false, cond}
 use mathlib.Core.List.{List}
 use lib.ListN.{length, set, replicate}
 use Rattle.table.specs.Build.{start_words}
-use borrow.Author.Rules.{rules}
 use Rattle.table.proofs.start_block.Goals as goal
 
 -- either way

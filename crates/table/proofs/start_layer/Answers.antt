@@ -10,7 +10,6 @@ use Rattle.words.proofs.Pieces.{piece-end, join-zero}
 use Rattle.words.proofs.Writes.{length_part, length-write, write-part}
 use Rattle.table.specs.Build.{start_words}
 use Rattle.table.proofs.Starting.{one_block}
-use borrow.Author.Rules.{rules}
 use native.Mathlib.Omega.{arith}
 use Rattle.table.proofs.start_layer.Goals as goal
 use Rattle.table.proofs.start_layer.Goals.{At-loop-v}
