@@ -42,12 +42,14 @@ module _ (c : After-block_at-in-loop-a) where
   abbrev R : Req
   R = asked c.args.s.request c.args.arcs.now
 
+  -- where they begin
   abbrev from : ℕ
   from = c.args.prev + c.block_at.result
 
   abbrev to : ℕ
   to = c.args.base + c.block_at-in-loop-a.result
 
+  -- the arc's own words
   this-arc : Here c.args.s c.args.arcs.now c.args.ladders.now c.requires.framed c.loop-a.a
   this-arc = here c.args.s c.args.arcs.now c.args.ladders.now c.requires.framed c.loop-a.a c.loop-a-test.true
 

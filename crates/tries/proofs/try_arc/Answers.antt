@@ -26,6 +26,7 @@ record Set (s : Frame) (arcs ladders labels : List ℕ) (from to a low high : �
   a_bound : a < arc_count (asked s.request arcs)
   ranged : Ranged (asked s.request arcs) (part labels from (span (asked s.request arcs))) low high
 
+-- it holds where the function begins
 set : (b : Start) → let a = b.args in Set a.s a.arcs.now a.ladders.now a.labels.now a.from a.to a.a a.low a.high
 set b = let p = b.requires in record { framed = p.framed; apart = p.apart; a_bound = p.a_bound; ranged = p.ranged }
 
@@ -95,9 +96,11 @@ module _ {s : Frame} {arcs ladders labels : List ℕ} {from to a low high : ℕ}
 
 -- once cell c is extended
 module _ (x : After-extend) where
+  -- what was asked still holds
   asked-set : let a = x.args in Set a.s a.arcs.now a.ladders.now a.labels.now a.from a.to a.a a.low a.high
   asked-set = let p = x.requires in record { framed = p.framed; apart = p.apart; a_bound = p.a_bound; ranged = p.ranged }
 
+  -- the cell was filled
   filled-cell : get_or x.loop-c.labels (x.args.from + x.label_at.result + x.args.s.d) 0 ≡ 0 → ⊥
   filled-cell = x.loop-c.invariant.2 x.label_at.result x.loop-c-test.true x.label_at.ensures.0
 
