@@ -3,7 +3,8 @@
 
 ghost use Rattle.std.specs.Prelude.{◌<◌, ◌≤◌, length};
 
-use libc::STDIN_FILENO;
+use std::io;
+use std::io::Read;
 
 // The value of a decimal digit.
 fn digit(byte: u8) -> usize
@@ -21,30 +22,33 @@ fn length_of(line: [u8; 5]) -> usize
 }
 
 // Reads the next n bytes.
-fn fill(sheet: &mut [u8], n: usize)
+fn fill(input: &mut impl Read, sheet: &mut [u8], n: usize) -> io::Result<()>
     requires { n ≤ length sheet.old }
 {
-    io::read_full(STDIN_FILENO, &mut sheet[0..n]);
+    printer::read_full(input, &mut sheet[0..n])?;
+    Ok(())
 }
 
 // One sheet; false at the end of the input.
-fn next() -> bool {
+fn next(rt: &HostRuntime) -> io::Result<bool> {
     let mut line = [0u8; 5];
-    let got = io::read_full(STDIN_FILENO, &mut line);
+    let got = printer::read_full(&mut rt.stdin(), &mut line)?;
     if got < 5 {
-        return false;
+        return Ok(false);
     }
     let n = length_of(line);
     let mut sheet = [0u8; 10000];
-    fill(&mut sheet, n);
-    printer::print(&sheet[0..n]);
-    true
+    fill(&mut rt.stdin(), &mut sheet, n)?;
+    let printing = printer::print(&mut rt.stdout(), &sheet[0..n]);
+    printing.written?;
+    Ok(true)
 }
 
 // A proved loop has to end, and nothing says that the input does: it counts down from more sheets than there are.
-fn main() {
+fn main(rt: HostRuntime) -> io::Result<()> {
     let mut turns: u32 = 1000000;
-    while turns > 0 && next() {
+    while turns > 0 && next(&rt)? {
         turns -= 1;
     }
+    Ok(())
 }
