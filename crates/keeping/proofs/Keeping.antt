@@ -8,7 +8,7 @@ use lib.ListN.{length, get_or, set, take, drop, replicate, length-append}
 use lib.Seq.{take-take}
 use borrow.Author.Tests.{lt-ltb, le-ltb}
 use Rattle.words.specs.Pieces.{part, write}
-use Rattle.words.proofs.Writes.{length_part, get_d_part, write-part, set-behind, part-more, get_or-write-below}
+use Rattle.words.proofs.Writes.{length_part, get_or-part, write-part, set-behind, part-more, get_or-write-below}
 use Rattle.rounds.specs.Label.{label}
 use Rattle.keeping.specs.Kept.{keep_words}
 
@@ -37,7 +37,7 @@ module _ (xs : List ℕ) (at to d : ℕ) (below : at + d + 2 ≤ to) (room : to 
 
   -- its step
   pub step-word : get_or (part xs at (d + 2)) d 0 ≡ get_or xs (at + d) 0
-  step-word = get_d_part xs at (d + 2) d (omega arith)
+  step-word = get_or-part xs at (d + 2) d (omega arith)
 
   -- a filled label
   pub keep-filled : (get_or xs (at + d) 0 ≡ 0 → ⊥) → write xs to (label (part xs at d) 2 0) ≡ write xs to (keep_words d (part xs at (d + 2)))

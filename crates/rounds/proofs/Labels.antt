@@ -8,7 +8,7 @@ use lib.ListN.{length, get_or, take, drop, replicate, length-append, length-take
 use lib.Seq.{take_at, get_or_at, get_or-append-add}
 use lib.Dec.{T, ltb, lt→ltb, ltb→lt}
 use Rattle.words.specs.Pieces.{at}
-use Rattle.words.proofs.Writes.{get_d_part}
+use Rattle.words.proofs.Writes.{get_or-part}
 use Rattle.request.specs.Request.{Req, width, arc_count}
 use Rattle.request.specs.Accepted.{Regular}
 use Rattle.request.proofs.Tops.{arc-length}
@@ -76,7 +76,7 @@ module _ (R : Req) where
   -- a cost of a label is a word of it
   pub cost-word : (l : List ℕ) (j : ℕ) → j < R.criteria → get_or (costs R l) j 0 ≡ get_or l j 0
   unfolding costs
-  cost-word l j h = get_d_part l 0 R.criteria j h ∙ ap (λ (k : ℕ). get_or l k 0) (zero-add j)
+  cost-word l j h = get_or-part l 0 R.criteria j h ∙ ap (λ (k : ℕ). get_or l k 0) (zero-add j)
 
   -- ---- empty, start, kept
 
@@ -145,7 +145,7 @@ module _ (R : Req) where
   pub blank-empty : (c : ℕ) → T (filled R (at (width R) (blank R) c)) → ⊥
   unfolding filled step at blank
   blank-empty k t =
-      let e = get_d_part (replicate (span R) 0) (k * width R) (width R) R.criteria (omega arith) in
+      let e = get_or-part (replicate (span R) 0) (k * width R) (width R) R.criteria (omega arith) in
       let z = zeros (span R) (k * width R + R.criteria) in
       let h = ltb→lt 0 (get_or (take (width R) (drop (k * width R) (replicate (span R) zero))) R.criteria zero) t in
       omega arith

@@ -8,7 +8,7 @@ use lib.ListN.{length, get_or}
 use Rattle.words.specs.Pieces.{part, at, write}
 use Rattle.words.proofs.Pieces.{piece-end, piece-word}
 use Rattle.words.proofs.Turns.{turned, loop-starts, loop-turns, loop-long}
-use Rattle.words.proofs.Writes.{length_part, length-write, get_d_part, part-write-below, part-write-same}
+use Rattle.words.proofs.Writes.{length_part, length-write, get_or-part, part-write-below, part-write-same}
 use Rattle.request.specs.Request.{Req, asked, width, arc_count}
 use Rattle.request.specs.Shape.{cells}
 use Rattle.request.specs.Accepted.{Regular}
@@ -73,7 +73,7 @@ module _ (s : Frame) (arcs ladders labels : List ℕ) (from to a low high : ℕ)
       z.full l
       (let b = piece-end (s.d + 2) s.cells n (omega (arith, r.inside, f.cells_is)) in
       piece-word (s.d + 2) (part labels from (from + s.span - from)) n s.d (omega arith)
-      ∙ get_d_part labels from (from + s.span - from) (n * (s.d + 2) + s.d) (omega (arith, f.sized.whole, ap (λ (w : ℕ). s.cells * w) f.sized.words))
+      ∙ get_or-part labels from (from + s.span - from) (n * (s.d + 2) + s.d) (omega (arith, f.sized.whole, ap (λ (w : ℕ). s.cells * w) f.sized.words))
       ∙ ap (λ (k : ℕ). get_or labels k 0) (omega (arith, ap (λ (w : ℕ). n * w) f.sized.words))
       ∙ q)
 

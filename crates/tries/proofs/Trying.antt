@@ -9,7 +9,7 @@ use lib.ListN.{length, get_or, take, drop}
 use borrow.Author.Tests.{lt-ltb}
 use Rattle.words.specs.Pieces.{part, at, put, write}
 use Rattle.words.proofs.Choices.{true-is}
-use Rattle.words.proofs.Writes.{length_part, get_d_part, write-part}
+use Rattle.words.proofs.Writes.{length_part, get_or-part, write-part}
 use Rattle.words.proofs.Pieces.{at_length, piece-end}
 use Rattle.request.specs.declared.Request.{Request}
 use Rattle.request.specs.Request.{Req, asked, width, arc_count, arc, arc_costs}
@@ -72,7 +72,7 @@ module _ (s : Frame) (arcs ladders labels : List ℕ) (from to a c : ℕ)
   unfolding step
   step-word r e =
       let w = f.sized.words in
-      sym (get_d_part labels (from + r) s.w s.d (omega arith))
+      sym (get_or-part labels (from + r) s.w s.d (omega arith))
       ∙ ap₂ (λ (x d : ℕ). get_or (part labels (from + x) s.w) d 0) e f.d_is
       ∙ ap (λ (x : List ℕ). get_or x s.request.criteria 0) (label_is Q s ladders f labels from c in_c)
 
