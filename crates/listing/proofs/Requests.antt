@@ -16,7 +16,7 @@ use Rattle.request.specs.declared.Request.{Request}
 use Rattle.request.specs.declared.Refusal.{Refusal}
 use Rattle.request.specs.declared.Shape.{Shape}
 use Rattle.request.specs.Request.{Req, asked, width}
-use Rattle.request.specs.Shape.{cells, ladders, label_count}
+use Rattle.request.specs.Shape.{ladders, label_count}
 use Rattle.request.specs.Rows.{rows}
 use Rattle.request.specs.Accepted.{Accepted}
 use Rattle.request.specs.Answer.{shape_of}

@@ -2,7 +2,6 @@
 use Prim.Native.Nat.{ℕ, ◌+◌}
 use mathlib.Core.Path.{ap}
 use native.Mathlib.Omega.{arith}
-use borrow.Author.Rules.{rules}
 use Rattle.listing.proofs.Places.{place-asks, place-small, place_end, filled_is}
 use Rattle.listing.proofs.is_filled.Goals as goal
 

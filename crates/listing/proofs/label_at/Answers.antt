@@ -1,6 +1,5 @@
 -- `label_at`: none of the products wraps. Assumes nothing.
 use native.Mathlib.Omega.{arith}
-use borrow.Author.Rules.{rules}
 use Rattle.listing.proofs.Places.{places-small}
 use Rattle.listing.proofs.label_at.Goals as goal
 

@@ -4,8 +4,6 @@ use mathlib.Core.Path.{sym, ap, ◌∙◌}
 use mathlib.Core.List.{List}
 use native.Mathlib.Omega.{arith}
 use lib.ListN.{length, length-replicate}
-use borrow.Author.Rules.{rules}
-use Rattle.words.proofs.Choices.{not-true, not-false}
 use Rattle.text.specs.Line.{parted_width}
 use Rattle.text.proofs.Puts.{line-width}
 use Rattle.request.specs.Request.{asked}
@@ -22,16 +20,17 @@ module _ (c : After-label_numbers-n) where
 
   stored : Stored numbers_of c.label_numbers-n.new.numbers c.label_numbers-n.result
   stored =
-      let s = in
-      let a = s.args in
-      numbers-stored a.request a.arcs.now a.labels.now a.cells s.pre.0 a.node a.cell s.pre.1.0 s.pre.1.1 _ _ c.label_numbers-n.ensures.value c.label_numbers-n.ensures.numbers_after
+      let a = c.args in
+      numbers-stored a.request a.arcs.now a.labels.now a.cells c.requires.tabled a.node a.cell c.requires.node_lt_nodes.0 c.requires.node_lt_nodes.1 _ _ c.label_numbers-n.ensures.value c.label_numbers-n.ensures.numbers_after
 
 pub returns-then-not-is_filled : goal.returns-then-not-is_filled
-returns-then-not-is_filled c =     let a = c.args in
-    let h = empty-label (asked a.request a.arcs.now) a.labels.now a.node a.cell (sym c.is_filled.ensures ∙ not-true c.is_filled.result c.if-not-is_filled.true) in record { filled_value = (h.0, omega arith); bytes_value = (ap length h.1, omega arith) }
+returns-then-not-is_filled c =
+    let a = c.args in
+    let h = empty-label (asked a.request a.arcs.now) a.labels.now a.node a.cell (sym c.is_filled.ensures ∙ c.if-not-is_filled.true) in
+    record { filled_value = (h.0, omega arith); bytes_value = (ap length h.1, omega arith) }
 
 pub label_numbers-n-requires : goal.label_numbers-n-requires
-label_numbers-n-requires c =     let a = c.args in record { tabled = c.requires.tabled; node_lt_nodes = (c.requires.node_lt_nodes.0, c.requires.node_lt_nodes.1, length-replicate {A = ℕ} 68 0) }
+label_numbers-n-requires c = record { tabled = c.requires.tabled; node_lt_nodes = (c.requires.node_lt_nodes.0, c.requires.node_lt_nodes.1, length-replicate {A = ℕ} 68 0) }
 
 pub slice_bounds-numbers-end : goal.slice_bounds-numbers-end
 slice_bounds-numbers-end c = omega (arith, stored (goal.at.slice_bounds-numbers-end c).After-label_numbers-n, c.label_numbers-n.ensures.value)
@@ -43,12 +42,17 @@ pub widths-requires : goal.widths-requires
 widths-requires c = omega (arith, (stored (goal.at.widths-requires c).After-label_numbers-n).few, ap length (stored (goal.at.widths-requires c).After-label_numbers-n).front)
 
 pub overflow_add-result : goal.overflow_add-result
-overflow_add-result c =     omega (arith, (stored (goal.at.overflow_add-result c).After-label_numbers-n).few, ap length (stored (goal.at.overflow_add-result c).After-label_numbers-n).front, c.widths.ensures.upper_bound)
+overflow_add-result c = omega (arith, (stored (goal.at.overflow_add-result c).After-label_numbers-n).few, ap length (stored (goal.at.overflow_add-result c).After-label_numbers-n).front, c.widths.ensures.upper_bound)
 
 pub returns : goal.returns
-returns c =         let a = c.args in
-    let f = c.is_filled in
-    let t = sym f.ensures ∙ not-false f.result c.if-not-is_filled.false in
+returns c =
+    let a = c.args in
+    let k = (goal.at.returns c).After-label_numbers-n in
+    let t = sym c.is_filled.ensures ∙ c.if-not-is_filled.false in
     let h = filled-label (asked a.request a.arcs.now) a.labels.now a.node a.cell t in
-    let w = c.widths.ensures.value ∙ ap parted_width (stored (goal.at.returns c).After-label_numbers-n).front in
-    let few = ap length (stored (goal.at.returns c).After-label_numbers-n).front in record { filled_value = (h.0, omega arith); bytes_value = (omega (arith, w, line-width tab label_word (numbers_of (goal.at.returns c).After-label_numbers-n), ap length h.1), omega (arith, (stored (goal.at.returns c).After-label_numbers-n).few, c.widths.ensures.upper_bound)) }
+    let w = c.widths.ensures.value ∙ ap parted_width (stored k).front in
+    let few = ap length (stored k).front in
+    record {
+      filled_value = (h.0, omega arith);
+      bytes_value = (omega (arith, w, line-width tab label_word (numbers_of k), ap length h.1), omega (arith, (stored k).few, c.widths.ensures.upper_bound));
+    }

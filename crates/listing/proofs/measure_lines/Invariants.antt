@@ -1,19 +1,11 @@
 -- `measure_lines`: the first v nodes are measured. Assumes nothing.
-use Prim.Native.Nat.{ℕ, ◌+◌, ◌-◌, ◌*◌, ◌≤◌, ◌<◌}
-use mathlib.Core.Path.{◌≡◌, sym, ap, ◌∙◌}
-use native.Mathlib.Omega.{arith}
-use native.Mathlib.Nat.{mul-le-mul_right, suc-mul, add-mul, one-mul}
+use Prim.Native.Nat.{◌-◌, ◌*◌, ◌≤◌}
+use mathlib.Core.Path.{◌≡◌}
 use lib.ListN.{length}
-use borrow.Author.Rules.{rules}
 use Rattle.words.specs.Loops.{total}
 use Rattle.words.specs.Pieces.{join}
-use Rattle.words.proofs.Loops.{total-zero, total-next}
-use Rattle.words.proofs.Pieces.{join-zero}
 use Rattle.request.specs.Request.{asked}
-use Rattle.request.specs.Shape.{cells}
-use Rattle.listing.specs.Listing.{filled_of, filled_last, node_lines, label_lines}
-use Rattle.listing.proofs.Places.{few-labels}
-use Rattle.listing.proofs.Joins.{join-end}
+use Rattle.listing.specs.Listing.{filled_of, node_lines}
 use Rattle.listing.proofs.measure_lines.Given as goal
 
 abbrev pub invariant-loop-v : goal.invariant-loop-v

@@ -1,9 +1,8 @@
 -- `measure_node`: the first c cells are measured. Assumes nothing.
-use Prim.Native.Nat.{ℕ, ◌-◌, ◌*◌, ◌≤◌}
+use Prim.Native.Nat.{ℕ}
 use mathlib.Core.Path.{◌≡◌, sym, ap, ◌∙◌}
 use native.Mathlib.Omega.{arith}
 use lib.ListN.{length}
-use borrow.Author.Rules.{rules}
 use Rattle.words.specs.Loops.{total}
 use Rattle.words.specs.Pieces.{join}
 use Rattle.words.proofs.Loops.{total-zero, total-next}

@@ -1,18 +1,11 @@
 -- `measure_node`: the first c cells are measured. Assumes nothing.
-use Prim.Native.Nat.{ℕ, ◌-◌, ◌*◌, ◌≤◌}
-use mathlib.Core.Path.{◌≡◌, sym, ap, ◌∙◌}
-use native.Mathlib.Omega.{arith}
+use Prim.Native.Nat.{◌-◌, ◌*◌, ◌≤◌}
+use mathlib.Core.Path.{◌≡◌}
 use lib.ListN.{length}
-use borrow.Author.Rules.{rules}
 use Rattle.words.specs.Loops.{total}
 use Rattle.words.specs.Pieces.{join}
-use Rattle.words.proofs.Loops.{total-zero, total-next}
-use Rattle.words.proofs.Pieces.{join-zero}
 use Rattle.request.specs.Request.{asked}
-use Rattle.request.specs.Shape.{cells}
-use Rattle.listing.specs.Listing.{filled_at, filled_of, label_line, node_lines}
-use Rattle.listing.proofs.Places.{few-cells}
-use Rattle.listing.proofs.Joins.{join-end}
+use Rattle.listing.specs.Listing.{filled_at, label_line}
 use Rattle.listing.proofs.measure_node.Given as goal
 
 abbrev pub invariant-loop-c : goal.invariant-loop-c

@@ -1,15 +1,10 @@
 -- `put_labels`: the lines of the first v nodes are written. Assumes nothing.
-use Prim.Native.Nat.{ℕ, ◌+◌, ◌-◌, ◌≤◌}
-use mathlib.Core.Path.{◌≡◌, refl, ap, ◌∙◌}
-use native.Mathlib.Omega.{arith}
+use Prim.Native.Nat.{◌+◌, ◌-◌, ◌≤◌}
+use mathlib.Core.Path.{◌≡◌}
 use lib.ListN.{length}
-use borrow.Author.Rules.{rules}
 use Rattle.words.specs.Pieces.{write, join}
 use Rattle.request.specs.Request.{asked}
-use Rattle.request.specs.Shape.{cells}
-use Rattle.listing.specs.Listing.{node_lines, label_lines}
-use Rattle.words.proofs.Turns.{join-put}
-use Rattle.listing.proofs.Joins.{join-end, join-room, join-none}
+use Rattle.listing.specs.Listing.{node_lines}
 use Rattle.listing.proofs.put_labels.Given as goal
 
 abbrev pub invariant-loop-v : goal.invariant-loop-v

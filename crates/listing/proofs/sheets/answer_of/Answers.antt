@@ -1,6 +1,5 @@
 -- `answer_of`: each case by itself. Assumes nothing.
 use mathlib.Core.Path.{sym, ap}
-use borrow.Author.Rules.{rules}
 use Rattle.listing.specs.List.{printed_as}
 use Rattle.listing.proofs.sheets.answer_of.Goals as goal
 

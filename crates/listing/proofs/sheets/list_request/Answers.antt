@@ -1,6 +1,5 @@
 -- `list_request`: a refusal of the check, or the listing of the shape. Assumes nothing.
 use mathlib.Core.Path.{sym, ◌∙◌}
-use borrow.Author.Rules.{rules}
 use Rattle.request.specs.Request.{asked}
 use Rattle.request.proofs.Answers.{refused-is, shaped-is}
 use Rattle.listing.proofs.Requests.{lists-early}

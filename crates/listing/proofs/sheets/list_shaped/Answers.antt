@@ -5,7 +5,6 @@ use mathlib.Core.List.{List}
 use native.Mathlib.Omega.{arith}
 use lib.ListN.{length, take, replicate, length-replicate}
 use lib.Seq.{length-take-le}
-use borrow.Author.Rules.{rules}
 use Rattle.request.specs.Request.{Req, asked, width}
 use Rattle.request.specs.Shape.{ladders, label_count}
 use Rattle.rounds.specs.Rounds.{table, tries}
@@ -19,7 +18,7 @@ use Rattle.listing.specs.List.{listing_of}
 use Rattle.listing.proofs.Rooms.{ladders-few, tries-few}
 use Rattle.listing.proofs.Requests.{lists-many, lists-printed, build_refused, build-tries, build-words, tabled, table-front}
 use Rattle.listing.proofs.sheets.list_shaped.Goals as goal
-use Rattle.listing.proofs.sheets.list_shaped.Goals.{After-answer_of, After-build-built, In-Tries}
+use Rattle.listing.proofs.sheets.list_shaped.Goals.{After-build-built}
 
 -- the listing of the words that were built is the request's
 listing-is : (R : Req) (W : List ℕ) (t : ℕ) → W ≡ table R → t ≡ tries R R.hops → listing_text R W t ≡ listing_of R
@@ -69,37 +68,45 @@ module _ (c : After-build-built) where
 
     -- the labels are as many as before
     long : length c.build-built.new.labels ≡ 12288
-    long = c.build-built.auto.1.1.1.0 ∙ length-replicate {A = ℕ} 12288 0
+    long = c.build-built.auto.labels ∙ length-replicate {A = ℕ} 12288 0
 
     -- and so a table's
     is-tabled : Tabled R-of (take (c.args.shape.labels * (c.args.request.criteria + 2)) c.build-built.new.labels) c.args.shape.cells
     is-tabled = subst (λ (W : List ℕ). Tabled R-of W c.args.shape.cells) (sym front) (tabled c.args.request c.args.arcs.now c.requires.0 c.args.shape c.requires.1)
 
 pub overflow_mul-words : goal.overflow_mul-words
-overflow_mul-words c = omega (arith, few (goal.at.overflow_mul-words c).In-Tries _ c.in-Tries.is)
+overflow_mul-words c = omega (arith, few (goal.at.overflow_mul-words c).After-build-built _ c.in-Tries.is)
 
 pub slice_bounds-labels-end : goal.slice_bounds-labels-end
-slice_bounds-labels-end c = let e = c.in-Tries.is in
-    omega (arith, few (goal.at.slice_bounds-labels-end c).In-Tries _ e, long (goal.at.slice_bounds-labels-end c).In-Tries _ e)
+slice_bounds-labels-end c =
+    let k = (goal.at.slice_bounds-labels-end c).After-build-built in
+    omega (arith, few k _ c.in-Tries.is, long k _ c.in-Tries.is)
 
 pub slice_bounds-print-end : goal.slice_bounds-print-end
-slice_bounds-print-end c = let e = c.in-Tries.is in
-    sym (length-take-le _ _ (omega (arith, few (goal.at.slice_bounds-print-end c).In-Tries _ e, long (goal.at.slice_bounds-print-end c).In-Tries _ e)))
+slice_bounds-print-end c =
+    let k = (goal.at.slice_bounds-print-end c).After-build-built in
+    sym (length-take-le _ _ (omega (arith, few k _ c.in-Tries.is, long k _ c.in-Tries.is)))
 
 pub overflow_cast-t : goal.overflow_cast-t
-overflow_cast-t c = omega (arith, small (goal.at.overflow_cast-t c).In-Tries _ c.in-Tries.is)
+overflow_cast-t c = omega (arith, small (goal.at.overflow_cast-t c).After-build-built _ c.in-Tries.is)
 
 pub print-requires : goal.print-requires
-print-requires c = is-tabled (goal.at.print-requires c).In-Tries _ c.in-Tries.is
+print-requires c = is-tabled (goal.at.print-requires c).After-build-built _ c.in-Tries.is
 
 pub returns-in-Refused : goal.returns-in-Refused
-returns-in-Refused c = let r = c.in-Refused.r in
-    let p = build_refused (R-of (goal.at.returns-in-Refused c).After-build-built) c.requires.0 (length (replicate {A = ℕ} 8194 0)) (enough (goal.at.returns-in-Refused c).After-build-built) r (sym c.in-Refused.is ∙ answered (goal.at.returns-in-Refused c).After-build-built) in
-    let l = lists-many (R-of (goal.at.returns-in-Refused c).After-build-built) c.args.listing.now c.requires.0 p.0 in record { value = ap listed.Refused p.1 ∙ l.says; listing_after = l.left }
+returns-in-Refused c =
+    let k = (goal.at.returns-in-Refused c).After-build-built in
+    let p = build_refused (R-of k) c.requires.0 (length (replicate {A = ℕ} 8194 0)) (enough k) c.in-Refused.r (sym c.in-Refused.is ∙ answered k) in
+    let l = lists-many (R-of k) c.args.listing.now c.requires.0 p.0 in
+    record { value = ap listed.Refused p.1 ∙ l.says; listing_after = l.left }
 
 pub returns-in-Tries : goal.returns-in-Tries
-returns-in-Tries c = let e = c.in-Tries.is in
+returns-in-Tries c =
+    let k = (goal.at.returns-in-Tries c).After-build-built in
+    let e = c.in-Tries.is in
+    let b = c.args.listing.now in
     let p = c.print in
-    let t = listing-is (R-of (goal.at.returns-in-Tries c).After-build-built) _ _ (front (goal.at.returns-in-Tries c).After-answer_of _ e) (counted (goal.at.returns-in-Tries c).After-answer_of _ e) in
-    let l = lists-printed (R-of (goal.at.returns-in-Tries c).After-build-built) c.args.listing.now c.requires.0 (fits (goal.at.returns-in-Tries c).After-answer_of _ e) p.result p.new.listing
-    (p.ensures.value ∙ ap (λ (x : List ℕ). printed_of x (length c.args.listing.now)) t) (p.ensures.listing_after ∙ ap (λ (x : List ℕ). bytes_after x c.args.listing.now) t) in record { value = c.answer_of.ensures ∙ l.says; listing_after = l.left }
+    let t = listing-is (R-of k) _ _ (front k _ e) (counted k _ e) in
+    let l = lists-printed (R-of k) b c.requires.0 (fits k _ e) p.result p.new.listing
+    (p.ensures.value ∙ ap (λ (x : List ℕ). printed_of x (length b)) t) (p.ensures.listing_after ∙ ap (λ (x : List ℕ). bytes_after x b) t) in
+    record { value = c.answer_of.ensures ∙ l.says; listing_after = l.left }
