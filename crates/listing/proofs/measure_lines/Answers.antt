@@ -19,24 +19,28 @@ next-few : (v n C : ℕ) → v < n → n * C ≤ 1048576 → v * C + C ≤ 10485
 next-few v n C h k = omega (arith, mul-le-mul_right C h, suc-mul v C)
 
 pub loop-v-init : goal.loop-v-init
-loop-v-init c = let a = c.args in
+loop-v-init c =
+    let a = c.args in
     (omega arith, sym (total-zero (filled_of (asked a.request a.arcs.now) a.labels.now)), omega arith, sym (ap length (join-zero (node_lines (asked a.request a.arcs.now) a.labels.now))), omega arith)
 
 pub measure_node-node-requires : goal.measure_node-node-requires
 measure_node-node-requires c = record { tabled = c.requires; node_lt_nodes = c.loop-v-test.true }
 
 pub overflow_add-filled : goal.overflow_add-filled
-overflow_add-filled c = let a = c.args in
+overflow_add-filled c =
+    let a = c.args in
     let l = c.loop-v in
     omega (arith, c.measure_node-node.ensures.filled_value.1, l.invariant.2, next-few l.v a.request.nodes a.cells c.loop-v-test.true (few-labels a.request a.arcs.now a.labels.now a.cells c.requires))
 
 pub overflow_add-bytes : goal.overflow_add-bytes
-overflow_add-bytes c = let a = c.args in
+overflow_add-bytes c =
+    let a = c.args in
     let l = c.loop-v in
     omega (arith, c.measure_node-node.ensures.bytes_value.1, l.invariant.4, next-few l.v a.request.nodes a.cells c.loop-v-test.true (few-labels a.request a.arcs.now a.labels.now a.cells c.requires))
 
 pub loop-v-preserved : goal.loop-v-preserved
-loop-v-preserved c = let a = c.args in
+loop-v-preserved c =
+    let a = c.args in
     let l = c.loop-v in
     let m = c.measure_node-node.ensures in
     let t = total-next (filled_of (asked a.request a.arcs.now) a.labels.now) l.v in
@@ -51,7 +55,9 @@ loop-v-preserved c = let a = c.args in
 
 pub returns : goal.returns
 unfolding filled_last label_lines
-returns c = let a = c.args in
+returns c =
+    let a = c.args in
     let l = c.loop-v in
     let e : l.v ≡ a.request.nodes = omega (arith, c.loop-v-test.false, l.invariant.0) in
-    let k = mul-le-mul_right a.cells l.invariant.0 in record { filled_value = l.invariant.1 ∙ ap (total (filled_of (asked a.request a.arcs.now) a.labels.now)) e; bytes_value = (l.invariant.3 ∙ ap (λ (k : ℕ). length (join (node_lines (asked a.request a.arcs.now) a.labels.now) k)) e, omega (arith, l.invariant.4, few-labels a.request a.arcs.now a.labels.now a.cells c.requires)) }
+    let k = mul-le-mul_right a.cells l.invariant.0 in
+    record { filled_value = l.invariant.1 ∙ ap (total (filled_of (asked a.request a.arcs.now) a.labels.now)) e; bytes_value = (l.invariant.3 ∙ ap (λ (k : ℕ). length (join (node_lines (asked a.request a.arcs.now) a.labels.now) k)) e, omega (arith, l.invariant.4, few-labels a.request a.arcs.now a.labels.now a.cells c.requires)) }

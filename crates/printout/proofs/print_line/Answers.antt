@@ -25,9 +25,12 @@ module _ (s : Start) where
   fits = omega (arith, short, s.requires)
 
 pub returns-in-Bytes : goal.returns-in-Bytes
-returns-in-Bytes c = let x = c.print_refusal-printed in
-    let e = printed-bytes (line_of (goal.at.returns-in-Bytes c).Start) c.args.text.now (fits (goal.at.returns-in-Bytes c).Start) c.in-Bytes.n (sym c.in-Bytes.is ∙ x.ensures.value) in record { value = (e, omega (arith, e, short (goal.at.returns-in-Bytes c).Start)); text_after = x.ensures.out_after ∙ printed-text (line_of (goal.at.returns-in-Bytes c).Start) c.args.text.now (fits (goal.at.returns-in-Bytes c).Start) }
+returns-in-Bytes c =
+    let x = c.print_refusal-printed in
+    let e = printed-bytes (line_of (goal.at.returns-in-Bytes c).Start) c.args.text.now (fits (goal.at.returns-in-Bytes c).Start) c.in-Bytes.n (sym c.in-Bytes.is ∙ x.ensures.value) in
+    record { value = (e, omega (arith, e, short (goal.at.returns-in-Bytes c).Start)); text_after = x.ensures.out_after ∙ printed-text (line_of (goal.at.returns-in-Bytes c).Start) c.args.text.now (fits (goal.at.returns-in-Bytes c).Start) }
 
 pub returns-in-Longer : goal.returns-in-Longer
-returns-in-Longer c = let x = c.print_refusal-printed in
+returns-in-Longer c =
+    let x = c.print_refusal-printed in
     absurd (not-longer (line_of (goal.at.returns-in-Longer c).Start) c.args.text.now (fits (goal.at.returns-in-Longer c).Start) (sym c.in-Longer.is ∙ x.ensures.value))

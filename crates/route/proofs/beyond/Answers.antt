@@ -6,9 +6,11 @@ pub returns-then-q-layer : goal.returns-then-q-layer
 returns-then-q-layer c = let a = c.args in rw (lt-ltb a.q.hops a.layer c.if-q-layer.true)
 
 pub returns-then-q-node : goal.returns-then-q-node
-returns-then-q-node c = let a = c.args in
+returns-then-q-node c =
+    let a = c.args in
     rw (le-ltb a.q.hops a.layer c.if-q-layer.false, le-leb a.q.nodes a.node c.if-q-node.true)
 
 pub returns : goal.returns
-returns c = let a = c.args in
+returns c =
+    let a = c.args in
     rw (le-ltb a.q.hops a.layer c.if-q-layer.false, lt-leb a.q.nodes a.node c.if-q-node.false)

@@ -107,7 +107,9 @@ pub label-reached-requires : goal.label-reached-requires
 label-reached-requires c = within-before c.requires.within
 
 pub arc_holds-requires : goal.arc_holds-requires
-arc_holds-requires c = let p = c.requires in record { regular = p.regular; criteria_bound = (p.within.criteria_few, p.cells_value) }
+arc_holds-requires c =
+    let p = c.requires in
+    record { regular = p.regular; criteria_bound = (p.within.criteria_few, p.cells_value) }
 
 pub returns-then-arc_holds : goal.returns-then-arc_holds
 returns-then-arc_holds c =

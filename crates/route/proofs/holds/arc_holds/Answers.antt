@@ -90,19 +90,22 @@ returns-then-cells-word c = not-held _
 
 pub returns-then-word-eq0 : goal.returns-then-word-eq0
 unfolding step
-returns-then-word-eq0 c = let a = c.args in
+returns-then-word-eq0 c =
+    let a = c.args in
     agree-empty (R (goal.at.returns-then-word-eq0 c).Else-cells-word) (costs (R (goal.at.returns-then-word-eq0 c).Else-cells-word) a.l.now) a.reached.now (sum (costs (R (goal.at.returns-then-word-eq0 c).Else-cells-word) a.reached.now) (arc_costs (R (goal.at.returns-then-word-eq0 c).Else-cells-word) a.a)) (sym c.word-4.ensures ∙ c.if-word-eq0.true) ∙ rest (goal.at.returns-then-word-eq0 c).Else-cells-word
 
 pub costs_add_up-requires : goal.costs_add_up-requires
 unfolding arc
-costs_add_up-requires c = let a = c.args in
+costs_add_up-requires c =
+    let a = c.args in
     let w = long (goal.at.costs_add_up-requires c).Else-cells-word in
     let u = word-inside a.reached.now a.q.criteria (λ e. c.if-word-eq0.false (c.word-4.ensures ∙ e)) in
     (omega arith, omega arith, ap length c.piece-arc.ensures ∙ arc-words (R (goal.at.costs_add_up-requires c).Else-cells-word) c.requires.regular a.a (in_arcs (goal.at.costs_add_up-requires c).Else-cells-word))
 
 pub returns : goal.returns
 unfolding step costs arc arc_costs
-returns c = let a = c.args in
+returns c =
+    let a = c.args in
     c.costs_add_up.ensures
     ∙ ap (λ (z : List ℕ). same (take a.q.criteria a.l.now) (sum (take a.q.criteria a.reached.now) (drop 2 z))) c.piece-arc.ensures
     ∙ agree-filled (R (goal.at.returns c).Else-cells-word) (costs (R (goal.at.returns c).Else-cells-word) a.l.now) a.reached.now (sum (costs (R (goal.at.returns c).Else-cells-word) a.reached.now) (arc_costs (R (goal.at.returns c).Else-cells-word) a.a)) (λ e. c.if-word-eq0.false (c.word-4.ensures ∙ e))

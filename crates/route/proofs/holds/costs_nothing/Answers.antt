@@ -10,12 +10,14 @@ pub loop-j-init : goal.loop-j-init
 loop-j-init c = (omega arith, λ k l. absurd (omega arith))
 
 pub returns-then-l-j-ne0 : goal.returns-then-l-j-ne0
-returns-then-l-j-ne0 c = let a = c.args in
+returns-then-l-j-ne0 c =
+    let a = c.args in
     nothing-no a.l.now a.d c.requires c.loop-j.j c.loop-j-test.true c.if-l-j-ne0.true
 
 pub loop-j-preserved : goal.loop-j-preserved
 loop-j-preserved c = (omega arith, below_next (λ k. get_or c.args.l.now k 0 ≡ 0) c.loop-j.j c.loop-j.invariant.1 c.if-l-j-ne0.false)
 
 pub returns : goal.returns
-returns c = let a = c.args in
+returns c =
+    let a = c.args in
     nothing-yes a.l.now a.d c.requires (λ k l. c.loop-j.invariant.1 k (omega arith))

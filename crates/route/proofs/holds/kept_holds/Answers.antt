@@ -58,7 +58,8 @@ returns-then-word-eq0 c = λ arcs.
     agree-empty R (costs R a.l.now) a.reached.now (costs R a.reached.now) (sym c.word-3.ensures ∙ c.if-word-eq0.true) ∙ rest (goal.at.returns-then-word-eq0 c).Else-word-ne0 arcs
 
 pub same_costs-requires : goal.same_costs-requires
-same_costs-requires c = let a = c.args in
+same_costs-requires c =
+    let a = c.args in
     let u = word-inside a.reached.now a.q.criteria (λ e. c.if-word-eq0.false (c.word-3.ensures ∙ e)) in
     (omega (arith, long (goal.at.same_costs-requires c).Else-word-ne0), omega arith)
 
