@@ -1,7 +1,6 @@
 #!/bin/sh
 # Compares the proved calls, behind their C boundary, with the reference model on generated inputs: answers, every byte and
-# word of each lent buffer, and the guards beside them. Works from a clean clone; on Arm the harness runs in the kit's emulator.
-# The model's side is plain Rust and runs as it is.
+# word of each lent buffer, and the guards beside them. Works from a clean clone. The model's side is plain Rust.
 set -eu
 root=$(cd "$(dirname "$0")/.." && pwd -P)
 . "$root/tools/c.sh"
@@ -16,17 +15,10 @@ MORE=-DSPOILED
 link_kit "$work/spoiled" "$root/tests/differential/harness.c"
 rustc -O --edition 2021 -o "$work/driver" "$root/tests/differential/main.rs"
 
-compare() {
-    if [ "$(uname -m)" = x86_64 ]; then
-        "$work/driver" "$1"
-    else
-        "$work/driver" "$own/toolchain/bin/qemu-x86_64" "$own/toolchain/lib/ld-linux-x86-64.so.2" --library-path "$own/toolchain/lib" "$1"
-    fi
-}
-compare "$work/harness"
+"$work/driver" "$work/harness"
 
 # The comparison itself: a planner with one wrong byte is found out.
-if compare "$work/spoiled" >"$work/spoiled.out"; then
+if "$work/driver" "$work/spoiled" >"$work/spoiled.out"; then
     echo "differential: a wrong byte in a lent buffer went unnoticed"
     exit 1
 fi

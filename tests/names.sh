@@ -46,7 +46,7 @@ for page in "$@"; do
     done <"${TMPDIR:-/tmp}/names.$$"
     rm -f "${TMPDIR:-/tmp}/names.$$"
 done
-# printer is left out: it stands on libc, and promises does not
+# printer is left out: it reads and writes, and promises does not stand on it
 for name in $(find crates/*/src -name '*.rt' ! -path 'crates/printer/*' -exec sed -nE 's/^ *pub (extern "C" )?fn ([a-z0-9_]+).*/\2/p' {} +); do
     seen=$((seen + 1))
     theorem=$(echo "$name" | tr _ -)-settled

@@ -1,5 +1,5 @@
-//! The planner behind a pipe: the harness program, run as a child (on Arm in
-//! the emulator), which takes a case and answers it. harness.c says the form.
+//! The planner behind a pipe: the harness program, run as a child, which
+//! takes a case and answers it. harness.c says the form.
 
 use std::io::{Read, Result, Write};
 use std::process::{Child, ChildStdin, ChildStdout, Command, Stdio};
