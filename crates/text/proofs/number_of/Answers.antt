@@ -8,7 +8,7 @@ pub returns-then-field-eq0 : goal.returns-then-field-eq0
 returns-then-field-eq0 c = sym (number-empty _ c.if-field-eq0.true)
 
 pub returns-then-field-eq1 : goal.returns-then-field-eq1
-returns-then-field-eq1 c = sym (number-zero-alone _ c.if-field-eq48.true c.if-field-eq1.true)
+returns-then-field-eq1 c = sym (number-zero-alone c.args.field.now (omega arith) c.if-field-eq1.true)
 
 pub returns-then-field-eq48 : goal.returns-then-field-eq48
 returns-then-field-eq48 c = sym (number-zero-more _ (omega arith) c.if-field-eq48.true)

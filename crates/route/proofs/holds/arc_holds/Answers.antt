@@ -11,7 +11,7 @@ use Rattle.request.proofs.Tops.{arc-words}
 use Rattle.route.specs.Chain.{same, agrees, arc_holds}
 use Rattle.route.proofs.Holding.{not-held, not-under, word-inside, Comes, arc-facts, arc-rest, agree-empty, agree-filled}
 use Rattle.route.proofs.holds.arc_holds.Goals as goal
-use Rattle.route.proofs.holds.arc_holds.Goals.{Else-cells-word, Start}
+use Rattle.route.proofs.holds.arc_holds.Goals.{After-word-4, Start}
 
 -- ---- what is known at each point
 
@@ -21,7 +21,7 @@ did : (s : Start) → T (arc_holds (asked s.args.q s.args.arcs.now) s.args.i s.a
 did s t = let a = s.args in arc-facts (asked a.q a.arcs.now) a.i a.l.now a.v a.a a.reached.now t
 
 -- once the step of the label reached is read, all but its costs is right
-module _ (c : Else-cells-word) where
+module _ (c : After-word-4) where
   abbrev R : Req
   R = asked c.args.q c.args.arcs.now
 
@@ -47,7 +47,6 @@ module _ (c : Else-cells-word) where
       let not_low = c.if-word-lt3.false in
       let later = c.if-i-eq0.false in
       let is-from = c.word-3.ensures in
-      let from_low = c.if-cells-word.false in
       let cells_are = c.requires.criteria_bound.1 in
       arc-rest R a.i a.l.now a.v a.a a.reached.now (omega arith) (omega arith) in_arcs
       (sym (c.word-2.ensures ∙ ap (λ (z : List ℕ). get_or z 1 0) c.piece-arc.ensures) ∙ c.if-word-v.false)
@@ -92,15 +91,15 @@ pub returns-then-word-eq0 : goal.returns-then-word-eq0
 unfolding step
 returns-then-word-eq0 c =
     let a = c.args in
-    agree-empty (R (goal.at.returns-then-word-eq0 c).Else-cells-word) (costs (R (goal.at.returns-then-word-eq0 c).Else-cells-word) a.l.now) a.reached.now (sum (costs (R (goal.at.returns-then-word-eq0 c).Else-cells-word) a.reached.now) (arc_costs (R (goal.at.returns-then-word-eq0 c).Else-cells-word) a.a)) (sym c.word-4.ensures ∙ c.if-word-eq0.true) ∙ rest (goal.at.returns-then-word-eq0 c).Else-cells-word
+    agree-empty (R (goal.at.returns-then-word-eq0 c).After-word-4) (costs (R (goal.at.returns-then-word-eq0 c).After-word-4) a.l.now) a.reached.now (sum (costs (R (goal.at.returns-then-word-eq0 c).After-word-4) a.reached.now) (arc_costs (R (goal.at.returns-then-word-eq0 c).After-word-4) a.a)) (sym c.word-4.ensures ∙ c.if-word-eq0.true) ∙ rest (goal.at.returns-then-word-eq0 c).After-word-4
 
 pub costs_add_up-requires : goal.costs_add_up-requires
 unfolding arc
 costs_add_up-requires c =
     let a = c.args in
-    let w = long (goal.at.costs_add_up-requires c).Else-cells-word in
+    let w = long (goal.at.costs_add_up-requires c).After-word-4 in
     let u = word-inside a.reached.now a.q.criteria (λ e. c.if-word-eq0.false (c.word-4.ensures ∙ e)) in
-    (omega arith, omega arith, ap length c.piece-arc.ensures ∙ arc-words (R (goal.at.costs_add_up-requires c).Else-cells-word) c.requires.regular a.a (in_arcs (goal.at.costs_add_up-requires c).Else-cells-word))
+    (omega arith, omega arith, ap length c.piece-arc.ensures ∙ arc-words (R (goal.at.costs_add_up-requires c).After-word-4) c.requires.regular a.a (in_arcs (goal.at.costs_add_up-requires c).After-word-4))
 
 pub returns : goal.returns
 unfolding step costs arc arc_costs
@@ -108,5 +107,5 @@ returns c =
     let a = c.args in
     c.costs_add_up.ensures
     ∙ ap (λ (z : List ℕ). same (take a.q.criteria a.l.now) (sum (take a.q.criteria a.reached.now) (drop 2 z))) c.piece-arc.ensures
-    ∙ agree-filled (R (goal.at.returns c).Else-cells-word) (costs (R (goal.at.returns c).Else-cells-word) a.l.now) a.reached.now (sum (costs (R (goal.at.returns c).Else-cells-word) a.reached.now) (arc_costs (R (goal.at.returns c).Else-cells-word) a.a)) (λ e. c.if-word-eq0.false (c.word-4.ensures ∙ e))
-    ∙ rest (goal.at.returns c).Else-cells-word
+    ∙ agree-filled (R (goal.at.returns c).After-word-4) (costs (R (goal.at.returns c).After-word-4) a.l.now) a.reached.now (sum (costs (R (goal.at.returns c).After-word-4) a.reached.now) (arc_costs (R (goal.at.returns c).After-word-4) a.a)) (λ e. c.if-word-eq0.false (c.word-4.ensures ∙ e))
+    ∙ rest (goal.at.returns c).After-word-4

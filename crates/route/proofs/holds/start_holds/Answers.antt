@@ -51,5 +51,5 @@ returns c = λ arcs. let a = c.args in
     c.costs_nothing.ensures
     ∙ start-rest (asked a.q arcs) a.i a.l.now a.v a.c
     (sym c.word.ensures ∙ c.if-word-ne1.false)
-    c.if-i-ne0.false c.if-v-q.false c.if-c-ne0.false
+    (omega arith) c.if-v-q.false c.if-c-ne0.false
     (sym c.word-2.ensures ∙ c.if-word-ne0.false)

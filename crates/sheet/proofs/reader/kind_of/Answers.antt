@@ -15,7 +15,7 @@ not-arc c h =
     elim c.if-m-lt512.branch [ then-m-lt512+else-is_arc w ↦ sym w.is_arc.ensures ∙ w.if-is_arc.false | else-m-lt512 w ↦ absurd (omega (arith, w.if-m-lt512.false)) ]
 
 pub returns-then-is_arc : goal.returns-then-is_arc
-returns-then-is_arc c = kind-arc-told _ _ _ c.if-m-lt512.true (sym c.if-is_arc.true ∙ c.is_arc.ensures)
+returns-then-is_arc c = kind-arc-told c.args.d c.args.m c.args.line.now (omega arith) (sym c.if-is_arc.true ∙ c.is_arc.ensures)
 
 pub returns : goal.returns
 returns c = c.ask_line.ensures ∙ kind-else-told _ _ _ (not-arc (goal.at.returns c).Joined-m-lt512)
