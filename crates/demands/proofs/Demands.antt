@@ -6,7 +6,7 @@ use mathlib.Core.Logic.{◌⊎◌, inl, inr}
 use native.Mathlib.Omega.{arith}
 use lib.ListN.{length, get_or}
 use lib.Dec.{T, T_not}
-use Rattle.words.specs.Pieces.{at, write}
+use Rattle.words.specs.Pieces.{write}
 use Rattle.words.specs.Radix.{volume}
 use Rattle.words.specs.Rows.{Row, row, Decides, NoneHolds, Weighed, clear, refused, weigh, settle}
 use Rattle.words.proofs.Rows.{decides-refused, none-clear, clear_none, refused-decides}

@@ -7,7 +7,6 @@ use Rattle.desk.specs.Packed.{packed}
 use Rattle.desk.specs.Calls.{built_said}
 use Rattle.desk.proofs.Builds.{built-answer}
 use Rattle.desk.proofs.Calls.{refusal-small, count-few, count-packed}
-use borrow.Author.Rules.{rules}
 use Rattle.desk.proofs.gowkaroo_build.Goals as goal
 
 pub pack_refusal-requires : goal.pack_refusal-requires
@@ -19,7 +18,19 @@ pack-requires c = let a = c.args in
     (omega arith, count-few _ (built-answer _ a.arcs.now (length a.ladders.now) (length a.labels.now)) _ (ap built_said (sym c.in-Tries.is ∙ c.build-built.ensures.value)))
 
 pub returns-in-Refused : goal.returns-in-Refused
-returns-in-Refused c = let w = rw c.request_from-from.ensures at (c.build-built.ensures.value, c.build-built.ensures.ladders_after, c.build-built.ensures.labels_after) in record { value = c.pack_refusal.ensures ∙ ap (λ (x : Built). packed (built_said x)) (sym c.in-Refused.is ∙ w.0); ladders_after = w.1.0; labels_after = w.1.1 }
+returns-in-Refused c =
+    let built = rw c.request_from-from.ensures at c.build-built.ensures.value in
+    record {
+      value = c.pack_refusal.ensures ∙ ap (λ (x : Built). packed (built_said x)) (sym c.in-Refused.is ∙ built);
+      ladders_after = rw c.request_from-from.ensures at c.build-built.ensures.ladders_after;
+      labels_after = rw c.request_from-from.ensures at c.build-built.ensures.labels_after;
+    }
 
 pub returns-in-Tries : goal.returns-in-Tries
-returns-in-Tries c = let w = rw c.request_from-from.ensures at (c.build-built.ensures.value, c.build-built.ensures.ladders_after, c.build-built.ensures.labels_after) in record { value = c.pack.ensures ∙ count-packed _ _ (ap built_said (sym c.in-Tries.is ∙ w.0)); ladders_after = w.1.0; labels_after = w.1.1 }
+returns-in-Tries c =
+    let built = rw c.request_from-from.ensures at c.build-built.ensures.value in
+    record {
+      value = c.pack.ensures ∙ count-packed _ _ (ap built_said (sym c.in-Tries.is ∙ built));
+      ladders_after = rw c.request_from-from.ensures at c.build-built.ensures.ladders_after;
+      labels_after = rw c.request_from-from.ensures at c.build-built.ensures.labels_after;
+    }

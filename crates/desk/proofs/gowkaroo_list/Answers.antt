@@ -6,7 +6,6 @@ use Rattle.listing.specs.declared.Listed.{Listed}
 use Rattle.desk.specs.Packed.{packed}
 use Rattle.desk.proofs.Lists.{list-answer}
 use Rattle.desk.proofs.Calls.{refusal-small, count-packed}
-use borrow.Author.Rules.{rules}
 use Rattle.desk.proofs.gowkaroo_list.Goals as goal
 
 pub pack_refusal-requires : goal.pack_refusal-requires

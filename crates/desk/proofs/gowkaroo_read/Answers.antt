@@ -5,7 +5,6 @@ use Rattle.desk.specs.Packed.{packed}
 use Rattle.desk.specs.Calls.{request_words}
 use Rattle.desk.proofs.Answers.{read_answer}
 use Rattle.desk.proofs.Calls.{refusal-small, count-packed, read-says-refusal, read-says-count, request-left, request-filled}
-use borrow.Author.Rules.{rules}
 use Rattle.desk.proofs.gowkaroo_read.Goals as goal
 
 pub pack_refusal-requires : goal.pack_refusal-requires

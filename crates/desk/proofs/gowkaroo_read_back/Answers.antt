@@ -8,7 +8,6 @@ use Rattle.desk.proofs.Packing.{packed-refusal}
 use Rattle.desk.proofs.Routes.{back-answer}
 use Rattle.desk.proofs.Calls.{refusal-small, count-packed}
 use Rattle.desk.proofs.Backs.{costs-refused, costs-empty, costs-route}
-use borrow.Author.Rules.{rules}
 use Rattle.desk.proofs.gowkaroo_read_back.Goals as goal
 
 pub pack_refusal-requires : goal.pack_refusal-requires

@@ -5,7 +5,6 @@ use Rattle.sheet.specs.Writer.{writing_said}
 use Rattle.desk.specs.Packed.{packed}
 use Rattle.desk.proofs.Answers.{write-answer}
 use Rattle.desk.proofs.Calls.{refusal-small, count-packed}
-use borrow.Author.Rules.{rules}
 use Rattle.desk.proofs.gowkaroo_write.Goals as goal
 
 pub pack_refusal-requires : goal.pack_refusal-requires

@@ -1,7 +1,6 @@
 -- `pack_refusal`: number and place. Assumes nothing.
 use mathlib.Core.Path.{◌∙◌}
 use Rattle.desk.proofs.Packing.{packed-refusal}
-use borrow.Author.Rules.{rules}
 use Rattle.desk.proofs.pack_refusal.Goals as goal
 
 pub returns : goal.returns
