@@ -1,4 +1,4 @@
-/* The route planner for C. Link with libdesk.a (`rt staticlib desk`; examples/c/build.sh does it).
+/* The route planner for C. Link with target/staticlib/libdesk.a (examples/c/build.sh makes it).
  *
  * Every function answers one 64-bit number, which is never anything else than
  *
