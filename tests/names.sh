@@ -1,7 +1,7 @@
 #!/bin/sh
 # Sees that the names in the pages stand where they say: names "in crate/File" among the definitions and theorems, names after a
 # file of code among its items, and edits among the must-fail edits; and that each public function has its theorem NAME-settled
-# in crates/promises. It says what is amiss, and how many names it has looked up.
+# in crates/promises, and desk_c's calls the clauses of desk's. It says what is amiss, and how many names it has looked up.
 #   tests/names.sh [PAGE..]     docs/MAP.md and docs/PROMISES.md without one
 set -eu
 cd "$(dirname "$0")/.."
@@ -19,8 +19,8 @@ declares() {
 
 # The lines "PLACE NAME" of a page.
 wanted() {
-    grep -oE "$list in [a-z]+/[A-Z][A-Za-z]*" "$1" | awk '{ place = $NF; n = split($0, part, "`"); for (i = 2; i < n; i += 2) print place, part[i] }'
-    grep -oE "[a-z]+/src/[a-z]+\.rt, $list" "$1" | awk '{ place = $1; sub(/,$/, "", place); n = split($0, part, "`"); for (i = 2; i < n; i += 2) print place, part[i] }'
+    grep -oE "$list in [a-z_]+/[A-Z][A-Za-z]*" "$1" | awk '{ place = $NF; n = split($0, part, "`"); for (i = 2; i < n; i += 2) print place, part[i] }'
+    grep -oE "[a-z_]+/src/[a-z]+\.rt, $list" "$1" | awk '{ place = $1; sub(/,$/, "", place); n = split($0, part, "`"); for (i = 2; i < n; i += 2) print place, part[i] }'
     grep -oE '[a-z]+/must-fail/[a-z0-9_]+' "$1" | awk '{ print $1, "edit" }'
 }
 
@@ -54,5 +54,12 @@ for name in $(find crates/*/src -name '*.rt' ! -path 'crates/printer/*' -exec se
     echo "crates/promises: no theorem $theorem"
     amiss=$((amiss + 1))
 done
+# The theorems are of desk's calls, and C links desk_c's: the two have the same parameters and the same clauses, to the letter.
+calls() { sed -n '/^pub extern "C" fn/,/^{/p' "crates/$1/src/lib.rt"; }
+[ "$(calls desk | grep -c '^    ensures')" -gt 0 ]
+if [ "$(calls desk)" != "$(calls desk_c)" ]; then
+    echo "crates/desk_c: its calls do not promise what desk's promise"
+    amiss=$((amiss + 1))
+fi
 echo "names: $seen looked up, $amiss amiss"
 [ "$amiss" -eq 0 ]
