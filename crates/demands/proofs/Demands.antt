@@ -13,12 +13,13 @@ use Rattle.words.proofs.Rows.{decides-refused, none-clear, clear_none, refused-d
 use Rattle.fences.specs.Fence.{bits, ceil}
 use Rattle.fences.proofs.Growth.{buckets-le}
 use Rattle.request.specs.declared.Request.{Request}
+use Rattle.request.specs.Refusal.{answer}
 use Rattle.request.specs.Request.{Req, asked, head, reach, ratio_p, ratio_q}
-use Rattle.request.specs.Shape.{top, buckets, cells}
+use Rattle.request.specs.Shape.{top, buckets, cells, ladders}
 use Rattle.request.specs.Accepted.{Accepted, Regular}
 use Rattle.request.proofs.Accepted.{accepted-regular}
 use Rattle.rounds.specs.Label.{costs, filled}
-use Rattle.rounds.specs.Rounds.{tries, label_at, label_in}
+use Rattle.rounds.specs.Rounds.{table, tries, label_at, label_in}
 use Rattle.rounds.proofs.Table.{table-words, front-label}
 use Rattle.rounds.proofs.Tries.{tries-le}
 use Rattle.rounds.proofs.Costs.{Within, layer-costs}
@@ -30,16 +31,17 @@ use Rattle.sheet.specs.Reader.{reader_rows, read_says, arcs_after, words_of}
 use Rattle.sheet.specs.Grammar.{sheet_of}
 use Rattle.sheet.specs.Writer.{writer_rows, write_says, sheet_after, written}
 use Rattle.sheet.proofs.RoundTrips.{same_bytes, same_numbers}
-use Rattle.table.specs.Build.{build_rows, answer, built_of, labels_after}
-use Rattle.table.specs.declared.Built.TheVariants as built
-use Rattle.table.proofs.Building.{clear-accepted, clear-rooms, refused_all, built-all}
+use Rattle.table.specs.Build.{build_rows, built_of, built_said, ladders_after, labels_after}
+use Rattle.table.proofs.Building.{clear-accepted, clear-rooms}
 use Rattle.route.specs.Chain.{chain}
-use Rattle.route.specs.Answer.{back_rows, arcs_of, route_after}
+use Rattle.route.specs.Answer.{back_rows, said, ended, ending_of, arcs_of, route_after}
 use Rattle.route.specs.Walked.{Fronts}
-use Rattle.route.proofs.Promises.{decides-ending, none-route, route-walks, table-route, table-walks}
+use Rattle.route.proofs.Promises.{none-route, route-walks, table-route, table-walks}
 use Rattle.route.proofs.Tables.{build-fronts}
 use Rattle.listing.specs.List as call
 use Rattle.demands.specs.Demands.{Demand1, Demand2, Demand3, EveryBuild, AnyRoute}
+use Rattle.demands.proofs.Named.{build-named, list-named, back-says, answer-says}
+use Rattle.std.proofs.Common.{Ok}
 
 -- the bucket counts of a request
 buckets-bound : (R : Req) → Regular R → (j : ℕ) → j < R.graded → 0 < ratio_p R j → buckets R j ≤ 1 + bits (top R j) * ceil (ratio_q R j) (ratio_p R j)
@@ -49,16 +51,20 @@ buckets-bound R ok j l p = buckets-le (ratio_p R j) (ratio_q R j) (ok.ratio_in j
 -- ---- what an answer of the build tells
 
 -- it answered tries: no row held
-accepted : (R : Req) (buffer labels : List ℕ) (t : ℕ) → built_of R (length buffer) (length labels) ≡ built.Tries t
+accepted : (R : Req) (buffer labels : List ℕ) (t : ℕ) → built_of R (length buffer) (length labels) ≡ Ok t
     → (weigh (build_rows R (length buffer) (length labels)) ≡ clear) × (t ≡ tries R R.hops)
 unfolding built_of
-accepted R buffer labels t e = go (weigh (build_rows R (length buffer) (length labels))) refl
+accepted R buffer labels t = go (weigh (build_rows R (length buffer) (length labels))) refl
   where
-    go : (w : Weighed) → weigh (build_rows R (length buffer) (length labels)) ≡ w → (weigh (build_rows R (length buffer) (length labels)) ≡ clear) × (t ≡ tries R R.hops)
-    go clear q = let a : built.Tries t ≡ built.Tries (tries R R.hops) = sym e ∙ ap (λ (z : Weighed). answer z (tries R R.hops)) q in (q, (cc))
-    go (refused n p) q =
-        let a : built.Tries t ≡ built.Refused (record { number = n; place = p }) = sym e ∙ ap (λ (z : Weighed). answer z (tries R R.hops)) q in
-        let z : ◌≡◌ {A = ℕ} 0 1 = cc in absurd (omega arith)
+    go : (w : Weighed) → weigh (build_rows R (length buffer) (length labels)) ≡ w → answer w (tries R R.hops) ≡ Ok t → (weigh (build_rows R (length buffer) (length labels)) ≡ clear) × (t ≡ tries R R.hops)
+    go clear q e = (q, (cc))
+    go (refused n p) q e = let z : ◌≡◌ {A = ℕ} 0 1 = cc in absurd (omega arith)
+
+-- where no row held, both buffers were written
+written-after : (R : Req) (buffer labels : List ℕ) → weigh (build_rows R (length buffer) (length labels)) ≡ clear
+    → (ladders_after R buffer (length labels) ≡ write buffer 0 (ladders R)) × (labels_after R (length buffer) labels ≡ write labels 0 (table R))
+unfolding ladders_after labels_after
+written-after R buffer labels e = (ap (λ (w : Weighed). settle w (write buffer 0 (ladders R)) buffer) e, ap (λ (w : Weighed). settle w (write labels 0 (table R)) labels) e)
 
 -- of any refusal rows one decides or none holds
 one-or-none : (rs : List Row) (w : Weighed) → weigh rs ≡ w → ((k : ℕ) × Decides rs k) ⊎ NoneHolds rs
@@ -66,17 +72,21 @@ one-or-none rs clear e = inr (clear_none rs e)
 one-or-none rs (refused n p) e = let r = refused-decides rs n p e in inl (r.0, r.1)
 
 pub demand1 : Demand1
-unfolding NoneHolds read_says arcs_after write_says sheet_after route_after call.listed_of call.listing_after
+unfolding NoneHolds built_of ladders_after labels_after ending_of read_says arcs_after write_says sheet_after route_after call.listed_of call.listing_after
 demand1 = record {
   decided = λ rs. one-or-none rs (weigh rs) refl;
   not_both = λ rs k d h. T_not (row rs k).holds (h k d.inside) d.held;
   build_refused = λ q arcs buffer labels k d.
       let R = asked q arcs in
-      let r = refused_all R buffer labels _ _ (decides-refused (build_rows R (length buffer) (length labels)) k d) in
-      (sym r.0, sym r.1, sym r.2);
+      let rs = build_rows R (length buffer) (length labels) in
+      let e = decides-refused rs k d in (
+        ap (λ (w : Weighed). built_said (answer w (tries R q.hops))) e ∙ answer-says rs _ _ (build-named R (length buffer) (length labels)) e,
+        ap (λ (w : Weighed). settle w (write buffer 0 (ladders R)) buffer) e,
+        ap (λ (w : Weighed). settle w (write labels 0 (table R)) labels) e,
+      );
   build_accepted = λ q arcs buffer labels h.
       let R = asked q arcs in
-      sym (built-all R buffer labels (none-clear (build_rows R (length buffer) (length labels)) h)).0;
+      ap (λ (w : Weighed). answer w (tries R q.hops)) (none-clear (build_rows R (length buffer) (length labels)) h);
   read_refused = λ s arcs k d.
       let e = decides-refused (reader_rows s (length arcs)) k d in
       (ap (λ (w : Weighed). told w (length (words_of (sheet_of s)))) e, ap (λ (w : Weighed). settle w (write arcs 0 (words_of (sheet_of s))) arcs) e);
@@ -91,29 +101,32 @@ demand1 = record {
       (ap (λ (w : Weighed). told w (length (written q arcs))) e, ap (λ (w : Weighed). settle w (write sheet 0 (written q arcs)) sheet) e);
   back_refused = λ q arcs labels buffer i v c k d.
       let R = asked q arcs in
-      let e = decides-refused (back_rows R labels (length buffer) i v c) k d in
-      (decides-ending R labels (length buffer) i v c k d, ap (λ (w : Weighed). settle w (write buffer 0 (arcs_of (chain R labels i v c))) buffer) e);
+      let e = decides-refused (back_rows R labels (length buffer) i v c) k d in (
+        ap (λ (w : Weighed). said (ended w (length (arcs_of (chain R labels i v c))))) e ∙ back-says R labels (length buffer) i v c _ _ e,
+        ap (λ (w : Weighed). settle w (write buffer 0 (arcs_of (chain R labels i v c))) buffer) e,
+      );
   back_accepted = λ q arcs labels room i v c h. none-route (asked q arcs) labels room i v c h;
   list_refused = λ s bytes k d.
-      let e = decides-refused (call.list_rows s (length bytes)) k d in
-      (ap (λ (w : Weighed). call.answer w (length (call.listing_of (call.asks s)))) e, ap (λ (w : Weighed). settle w (write bytes 0 (call.listing_of (call.asks s))) bytes) e);
+      let rs = call.list_rows s (length bytes) in
+      let e = decides-refused rs k d in (
+        ap (λ (w : Weighed). call.said (answer w (length (call.listing_of (call.asks s))))) e ∙ answer-says rs _ _ (list-named s (length bytes)) e,
+        ap (λ (w : Weighed). settle w (write bytes 0 (call.listing_of (call.asks s))) bytes) e,
+      );
   list_accepted = λ s bytes h.
       let e = none-clear (call.list_rows s (length bytes)) h in
-      (ap (λ (w : Weighed). call.answer w (length (call.listing_of (call.asks s)))) e, ap (λ (w : Weighed). settle w (write bytes 0 (call.listing_of (call.asks s))) bytes) e);
+      (ap (λ (w : Weighed). answer w (length (call.listing_of (call.asks s)))) e, ap (λ (w : Weighed). settle w (write bytes 0 (call.listing_of (call.asks s))) bytes) e);
 }
 
 pub demand2 : Demand2
 demand2 = record {
-  tables = λ q arcs buffer labels t e.
-      let r = built-all (asked q arcs) buffer labels (accepted (asked q arcs) buffer labels t e).0 in
-      (sym r.1, sym r.2);
+  tables = λ q arcs buffer labels t e. written-after (asked q arcs) buffer labels (accepted (asked q arcs) buffer labels t e).0;
   bytes = same_bytes;
   numbers = same_numbers;
 }
 
 -- ---- demand 3, of what the build leaves
 
-module _ (q : Request) (arcs buffer labels : List ℕ) (t : ℕ) (e : built_of (asked q arcs) (length buffer) (length labels) ≡ built.Tries t) where
+module _ (q : Request) (arcs buffer labels : List ℕ) (t : ℕ) (e : built_of (asked q arcs) (length buffer) (length labels) ≡ Ok t) where
   abbrev R : Req
   R = asked q arcs
 
@@ -133,15 +146,15 @@ module _ (q : Request) (arcs buffer labels : List ℕ) (t : ℕ) (e : built_of (
   front : Fronts R W
   front =
       let room = (clear-rooms R (length buffer) (length labels) none-held).1 in
-      subst (Fronts R) (built-all R buffer labels none-held).2 (build-fronts R labels (omega (arith, room, table-words R ok)))
+      subst (Fronts R) (sym (written-after R buffer labels none-held).1) (build-fronts R labels (omega (arith, room, table-words R ok)))
 
   -- the label at its place in the buffer is the rounds' own
   label_is : (i v c : ℕ) → i ≤ q.hops → v < q.nodes → c < cells R → label_in R W i v c ≡ label_at R i v c
   label_is i v c hi hv hc =
       let room = (clear-rooms R (length buffer) (length labels) none-held).1 in
       let words = table-words R ok in
-      let after = (built-all R buffer labels none-held).2 in
-      ap (λ (X : List ℕ). label_in R X i v c) (sym after) ∙ front-label R ok i v c hi hv hc labels (omega arith)
+      let after = (written-after R buffer labels none-held).1 in
+      ap (λ (X : List ℕ). label_in R X i v c) after ∙ front-label R ok i v c hi hv hc labels (omega arith)
 
   full_is : (i v c : ℕ) → i ≤ q.hops → v < q.nodes → c < cells R → T (filled R (label_in R W i v c)) → T (filled R (label_at R i v c))
   full_is i v c hi hv hc = subst (λ (l : List ℕ). T (filled R l)) (label_is i v c hi hv hc)

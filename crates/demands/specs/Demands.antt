@@ -1,5 +1,5 @@
 -- The three demands as theorems on the public functions' promises, each below the words of the person who asked. Assumes nothing.
-use Rattle.std.specs.Prelude.{ℕ, ◌+◌, ◌-◌, ◌*◌, ◌≤◌, ◌<◌, ◌≡◌, List, [], ◌∷◌, ◌⊎◌, length, get_or, T}
+use Rattle.std.specs.Prelude.{ℕ, ◌+◌, ◌-◌, ◌*◌, ◌≤◌, ◌<◌, ◌≡◌, cond, eqb, List, [], ◌∷◌, ◌⊎◌, length, get_or, T, Ok}
 use Rattle.words.specs.Loops.{up_to}
 use Rattle.words.specs.Pieces.{write}
 use Rattle.words.specs.Rows.{Row, row, Decides, NoneHolds}
@@ -12,17 +12,20 @@ use Rattle.rounds.specs.Rounds.{table, tries, label_in}
 use Rattle.cover.specs.Walk.{Walk, sums}
 use Rattle.cover.specs.Cover.{Covers}
 use Rattle.route.specs.Chain.{chain}
-use Rattle.route.specs.Answer.{back_rows, refusal, arcs_of, ending_of, route_after}
+use Rattle.route.specs.Answer.{back_rows, said, arcs_of, ending_of, route_after}
 use Rattle.route.specs.Walked.{RouteRead}
 use Rattle.route.specs.declared.Ending.TheVariants as ending
+use Rattle.listing.specs.List as list
 use Rattle.listing.specs.List.{asks, listing_of, list_rows, listed_of, listing_after}
-use Rattle.listing.specs.declared.Listed.TheVariants as listed
 use Rattle.sheet.specs.Grammar.{sheet_of}
 use Rattle.sheet.specs.Reader.{words_of, reader_rows, read_says, arcs_after}
 use Rattle.sheet.specs.Writer.{written, writer_rows, write_says, sheet_after}
 use Rattle.sheet.specs.RoundTrip.{SameBytes, SameNumbers}
-use Rattle.table.specs.Build.{build_rows, built_of, ladders_after, labels_after}
-use Rattle.table.specs.declared.Built.TheVariants as built
+use Rattle.table.specs.Build.{build_rows, built_of, built_said, ladders_after, labels_after}
+
+-- what a refused read-back tells of a row: number and place, but "an empty cell (number 15)" is told by its number alone
+abbrev pub told_as : ℕ → ℕ → List ℕ
+told_as n p = cond (eqb n 15) (15 ∷ []) (n ∷ p ∷ [])
 
 -- "Any sheet, request, table or asked place gets its answer or the first refusal that applies in document 01's order; no caller has to check
 -- first. A refused call leaves the lent buffers just as they came."
@@ -33,12 +36,12 @@ pub record Demand1 : Type 0 where
   pub not_both : (rs : List Row) (k : ℕ) → Decides rs k → NoneHolds rs → ⊥
   -- the build: row k is the answer when it holds and none before it does, and both buffers stay
   pub build_refused : (q : Request) (arcs buffer labels : List ℕ) (k : ℕ) → Decides (build_rows (asked q arcs) (length buffer) (length labels)) k
-      → (built_of (asked q arcs) (length buffer) (length labels)
-      ≡ built.Refused (record { number = (row (build_rows (asked q arcs) (length buffer) (length labels)) k).number; place = (row (build_rows (asked q arcs) (length buffer) (length labels)) k).place }))
+      → (built_said (built_of (asked q arcs) (length buffer) (length labels))
+      ≡ (row (build_rows (asked q arcs) (length buffer) (length labels)) k).number ∷ (row (build_rows (asked q arcs) (length buffer) (length labels)) k).place ∷ [])
       × (ladders_after (asked q arcs) buffer (length labels) ≡ buffer) × (labels_after (asked q arcs) (length buffer) labels ≡ labels)
   -- and the tries are the answer when no row holds
   pub build_accepted : (q : Request) (arcs buffer labels : List ℕ) → NoneHolds (build_rows (asked q arcs) (length buffer) (length labels))
-      → built_of (asked q arcs) (length buffer) (length labels) ≡ built.Tries (tries (asked q arcs) q.hops)
+      → built_of (asked q arcs) (length buffer) (length labels) ≡ Ok (tries (asked q arcs) q.hops)
   -- the reader
   pub read_refused : (s arcs : List ℕ) (k : ℕ) → Decides (reader_rows s (length arcs)) k
       → (read_says s (length arcs) ≡ (row (reader_rows s (length arcs)) k).number ∷ (row (reader_rows s (length arcs)) k).place ∷ []) × (arcs_after s arcs ≡ arcs)
@@ -51,23 +54,23 @@ pub record Demand1 : Type 0 where
       → (write_says q arcs (length sheet) ≡ 0 ∷ 0 ∷ length (written q arcs) ∷ []) × (sheet_after q arcs sheet ≡ write sheet 0 (written q arcs))
   -- the read-back, on any words for a table and any asked place
   pub back_refused : (q : Request) (arcs labels buffer : List ℕ) (i v c k : ℕ) → Decides (back_rows (asked q arcs) labels (length buffer) i v c) k
-      → (ending_of (asked q arcs) labels (length buffer) i v c
-      ≡ refusal (row (back_rows (asked q arcs) labels (length buffer) i v c) k).number (row (back_rows (asked q arcs) labels (length buffer) i v c) k).place)
+      → (said (ending_of (asked q arcs) labels (length buffer) i v c)
+      ≡ told_as (row (back_rows (asked q arcs) labels (length buffer) i v c) k).number (row (back_rows (asked q arcs) labels (length buffer) i v c) k).place)
       × (route_after (asked q arcs) labels buffer i v c ≡ buffer)
   pub back_accepted : (q : Request) (arcs labels : List ℕ) (room i v c : ℕ) → NoneHolds (back_rows (asked q arcs) labels room i v c)
       → ending_of (asked q arcs) labels room i v c ≡ ending.Route (length (arcs_of (chain (asked q arcs) labels i v c)))
   -- the lister's call, from a sheet's bytes to its listing's
   pub list_refused : (s bytes : List ℕ) (k : ℕ) → Decides (list_rows s (length bytes)) k
-      → (listed_of s (length bytes) ≡ listed.Refused (record { number = (row (list_rows s (length bytes)) k).number; place = (row (list_rows s (length bytes)) k).place }))
+      → (list.said (listed_of s (length bytes)) ≡ (row (list_rows s (length bytes)) k).number ∷ (row (list_rows s (length bytes)) k).place ∷ [])
       × (listing_after s bytes ≡ bytes)
   pub list_accepted : (s bytes : List ℕ) → NoneHolds (list_rows s (length bytes))
-      → (listed_of s (length bytes) ≡ listed.Bytes (length (listing_of (asks s)))) × (listing_after s bytes ≡ write bytes 0 (listing_of (asks s)))
+      → (listed_of s (length bytes) ≡ Ok (length (listing_of (asks s)))) × (listing_after s bytes ≡ write bytes 0 (listing_of (asks s)))
 
 -- "The tables equal, word by word, the rounds of source document 000 on the fences of document 01. A sheet that is read and written back gives the
 -- same bytes; numbers that are written and read back are the same numbers, but that with two criteria the unused ratio comes back as 0 over 1."
 pub record Demand2 : Type 0 where
   -- the ladders and the layers at the front of the two buffers, what lies beyond as it was
-  pub tables : (q : Request) (arcs buffer labels : List ℕ) (t : ℕ) → built_of (asked q arcs) (length buffer) (length labels) ≡ built.Tries t
+  pub tables : (q : Request) (arcs buffer labels : List ℕ) (t : ℕ) → built_of (asked q arcs) (length buffer) (length labels) ≡ Ok t
       → (ladders_after (asked q arcs) buffer (length labels) ≡ write buffer 0 (ladders (asked q arcs))) × (labels_after (asked q arcs) (length buffer) labels ≡ write labels 0 (table (asked q arcs)))
   pub bytes : SameBytes
   pub numbers : SameNumbers
@@ -113,7 +116,7 @@ pub record Demand3 (q : Request) (arcs buffer labels : List ℕ) (t : ℕ) : Typ
 
 -- of every build that answers tries
 abbrev pub EveryBuild : Type 0
-EveryBuild = (q : Request) (arcs buffer labels : List ℕ) (t : ℕ) → built_of (asked q arcs) (length buffer) (length labels) ≡ built.Tries t → Demand3 q arcs buffer labels t
+EveryBuild = (q : Request) (arcs buffer labels : List ℕ) (t : ℕ) → built_of (asked q arcs) (length buffer) (length labels) ≡ Ok t → Demand3 q arcs buffer labels t
 
 -- and of any words for a table: a route that is answered is a walk from the source to the asked camp, with exactly the answered sums
 abbrev pub AnyRoute : Type 0

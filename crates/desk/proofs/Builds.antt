@@ -15,11 +15,11 @@ use Rattle.request.specs.Accepted.{Accepted}
 use Rattle.request.proofs.Accepted.{sizes-facts, words-facts, accepted-regular, accepted-small, accepted-fits}
 use Rattle.request.proofs.Branches.{fault-cases}
 use Rattle.rounds.specs.Rounds.{tries}
-use Rattle.table.specs.Build.{build_rows, answer, built_of}
+use Rattle.request.specs.Refusal.{answer}
+use Rattle.table.specs.Build.{build_rows, built_of, built_said}
 use Rattle.listing.proofs.Rooms.{tries-few}
 use Rattle.desk.specs.Packed.{Answer}
-use Rattle.desk.specs.Calls.{built_said}
-use Rattle.desk.proofs.Sound.{Room, Sound, sound-append, sound-each, sound-listed, sound_more, table-answer, refusal-said, small-room}
+use Rattle.desk.proofs.Sound.{Room, Sound, sound-append, sound-each, sound-listed, sound_more, table-answer, refusal-answer, small-room}
 
 -- ---- the rows
 
@@ -112,5 +112,5 @@ pub built-answer : (q : Request) (arcs : List ℕ) (a b : ℕ) → Answer (built
 unfolding built_of
 built-answer q arcs a b =
     let n = tries (asked q arcs) q.hops in
-    table-answer (λ (w : Weighed). built_said (answer w n)) n refl refusal-said (build_rows (asked q arcs) a b) (build-sound q arcs a b)
+    table-answer (λ (w : Weighed). built_said (answer w n)) n refl refusal-answer (build_rows (asked q arcs) a b) (build-sound q arcs a b)
     (λ e. let ok = build-clear q arcs a b e in omega (arith, tries-few (asked q arcs) (accepted-regular (asked q arcs) ok) (accepted-small (asked q arcs) ok) (accepted-fits (asked q arcs) ok)))

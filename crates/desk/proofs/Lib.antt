@@ -1,4 +1,5 @@
 pub mod Packing
+pub mod Numbers
 pub mod Sound
 pub mod Answers
 pub mod Builds

@@ -11,13 +11,14 @@ use Rattle.request.specs.declared.Request.{Request}
 use Rattle.request.specs.Request.{asked, width}
 use Rattle.request.specs.Shape.{label_count}
 use Rattle.request.specs.Rows.{rows}
+use Rattle.request.specs.Refusal.{answer}
 use Rattle.request.specs.Accepted.{Accepted}
 use Rattle.sheet.specs.Grammar.{sheet_of}
 use Rattle.sheet.specs.Reader.{words_of, request_of, form_rows}
-use Rattle.listing.specs.List.{asks, listing_of, request_rows, list_rows, answer, listed_of, said}
+use Rattle.listing.specs.List.{asks, listing_of, request_rows, list_rows, listed_of, said}
 use Rattle.listing.proofs.Suffices.{listing-few}
 use Rattle.desk.specs.Packed.{Answer}
-use Rattle.desk.proofs.Sound.{Sound, sound-append, sound_more, table-answer, refusal-said}
+use Rattle.desk.proofs.Sound.{Sound, sound-append, sound_more, table-answer, refusal-answer}
 use Rattle.desk.proofs.Answers.{form-sound}
 use Rattle.desk.proofs.Builds.{rows-sound}
 
@@ -45,4 +46,4 @@ pub list-answer : (s : List ℕ) (room : ℕ) → Answer (said (listed_of s room
 unfolding listed_of
 list-answer s room =
     let n = length (listing_of (asks s)) in
-    table-answer (λ (w : Weighed). said (answer w n)) n refl refusal-said (list_rows s room) (list-sound s room) (listing-short s room)
+    table-answer (λ (w : Weighed). said (answer w n)) n refl refusal-answer (list_rows s room) (list-sound s room) (listing-short s room)

@@ -62,11 +62,7 @@ answer-told (n ∷ p ∷ c ∷ more) h =
 pub packed-once : (a b : List ℕ) → Answer a → Answer b → packed a ≡ packed b → a ≡ b
 packed-once a b ha hb e = sym (answer-told a ha) ∙ ap answer_of e ∙ answer-told b hb
 
--- a refusal's number, and a count
-pub number_small : (number place : ℕ) → Answer (number ∷ place ∷ []) → number < 65536
-unfolding Answer
-number_small number place h = h.1
-
+-- a count
 pub count_small : (n : ℕ) → Answer (0 ∷ 0 ∷ n ∷ []) → n < 4294967296
 unfolding Answer
 count_small n h = h.2

@@ -22,16 +22,16 @@ use Rattle.route.proofs.Answering.{layer-asked}
 use Rattle.route.proofs.Promises.{cleared}
 use Rattle.desk.specs.Packed.{Answer}
 use Rattle.desk.specs.Calls.{ending_said}
-use Rattle.desk.proofs.Sound.{Room, Sound, small-room, sound-append, table-answer}
+use Rattle.desk.proofs.Sound.{Room, Sound, small-room, sound-append, table-answer, refusal-said, refusal-answer}
 use Rattle.desk.proofs.Builds.{rows-sound}
 
 -- ---- the answers
 
 -- an empty cell is number 15; any other number is the refusal's
-refusal-answer : (n p : ℕ) → Room n p → Answer (ending_said (refusal n p))
-unfolding Answer refusal
-refusal-answer n p r =
-    cond_cases (λ (x : Ending). Answer (ending_said x)) (eqb n 15) (λ _. (omega arith, omega arith, omega arith)) (λ _. (r.some, r.few, r.near))
+ending-answer : (n p : ℕ) → Room n p → Answer (ending_said (refusal n p))
+unfolding refusal
+ending-answer n p r =
+    cond_cases (λ (x : Ending). Answer (ending_said x)) (eqb n 15) (λ _. refusal-said 15 0 (small-room 15 0 tt)) (λ _. refusal-answer n p r)
 
 module _ (q : Request) (arcs W : List ℕ) (room i v c : ℕ) where
   -- K of an accepted request
@@ -71,4 +71,4 @@ module _ (q : Request) (arcs W : List ℕ) (room i v c : ℕ) where
   unfolding ending_of
   back-answer =
       let n = length (arcs_of (chain (asked q arcs) W i v c)) in
-      table-answer (λ (w : Weighed). ending_said (ended w n)) n refl refusal-answer (back_rows (asked q arcs) W room i v c) back-sound route-few
+      table-answer (λ (w : Weighed). ending_said (ended w n)) n refl ending-answer (back_rows (asked q arcs) W room i v c) back-sound route-few

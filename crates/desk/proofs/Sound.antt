@@ -10,7 +10,10 @@ use Rattle.words.specs.Loops.{up_to}
 use Rattle.words.specs.Rows.{Row, Weighed, clear, refused, weigh, each}
 use Rattle.words.proofs.Choices.{and_both}
 use Rattle.words.proofs.Rows.{weigh-held, weigh-passed, weigh-none, either, refused-not-clear}
+use Rattle.request.specs.Refusal.{refusal_of}
+use Rattle.sheet.specs.Answer.{refusal_said}
 use Rattle.desk.specs.Packed.{Answer}
+use Rattle.desk.proofs.Numbers.{number-room, place-le}
 
 -- a number from 1 on and a place, each with room
 pub record Room (number place : ℕ) : Type 0 where
@@ -84,7 +87,13 @@ table-answer say n count refusal rs s few = go (weigh rs) refl
     go clear e = subst Answer (sym count) (refl, refl, few e, refl)
     go (refused number place) e = refusal number place (sound-refused rs number place s e)
 
--- a refusal's number and place
+-- a row's number and place
 pub refusal-said : (number place : ℕ) → Room number place → Answer (number ∷ place ∷ [])
 unfolding Answer
 refusal-said number place r = (r.some, r.few, r.near)
+
+-- and the number and place of a row's refusal
+pub refusal-answer : (number place : ℕ) → Room number place → Answer (refusal_said (refusal_of number place))
+unfolding Answer
+refusal-answer number place r =
+    let n = number-room (refusal_of number place) in (n.0, n.1, omega (arith, r.near, place-le number place))

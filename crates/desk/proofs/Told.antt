@@ -6,11 +6,11 @@ use Rattle.request.specs.declared.Request.{Request}
 use Rattle.request.specs.Request.{asked}
 use Rattle.sheet.specs.Reader.{read_says}
 use Rattle.sheet.specs.Writer.{write_says}
-use Rattle.table.specs.Build.{built_of}
+use Rattle.table.specs.Build.{built_of, built_said}
 use Rattle.route.specs.Answer.{ending_of}
 use Rattle.listing.specs.List as list
 use Rattle.desk.specs.Packed.{packed, answer_of}
-use Rattle.desk.specs.Calls.{built_said, ending_said}
+use Rattle.desk.specs.Calls.{ending_said}
 use Rattle.desk.proofs.Packing.{answer-told}
 use Rattle.desk.proofs.Answers.{read_answer, write-answer}
 use Rattle.desk.proofs.Builds.{built-answer}

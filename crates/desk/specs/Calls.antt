@@ -8,8 +8,6 @@ use Rattle.route.specs.declared.Ending.{Ending}
 use Rattle.route.specs.declared.Ending.TheVariants as ending
 use Rattle.sheet.specs.Answer.{refusal_said}
 use Rattle.sheet.specs.Reader.{reader_rows, read_request}
-use Rattle.table.specs.declared.Built.{Built}
-use Rattle.table.specs.declared.Built.TheVariants as built
 
 -- N, d, source, K, then p and q of the first criterion and of the second
 unfoldable pub request_from : List ℕ → Request
@@ -30,11 +28,6 @@ request_words r =
 -- the lent request words after the reader: those of the sheet, and on a refusal as they came
 unfoldable pub request_after : List ℕ → ℕ → List ℕ → List ℕ
 request_after s room words = settle (weigh (reader_rows s room)) (request_words (read_request s room)) words
-
--- a table that was built has no number (0), no place (0) and the sum of all tries; a refusal its number and place
-abbrev pub built_said : Built → List ℕ
-built_said (built.Tries n) = 0 ∷ 0 ∷ n ∷ []
-built_said (built.Refused r) = refusal_said r
 
 -- a route has no number (0), no place (0) and its arc count; "an empty cell (number 15)" has place 0; a refusal its number and place
 abbrev pub ending_said : Ending → List ℕ

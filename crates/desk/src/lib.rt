@@ -6,17 +6,14 @@ ghost use Rattle.request.specs.Request.{asked};
 ghost use Rattle.sheet.specs.Answer.{refusal_said};
 ghost use Rattle.sheet.specs.Reader.{read_says, arcs_after};
 ghost use Rattle.sheet.specs.Writer.{write_says, sheet_after};
-ghost use Rattle.table.specs.Build.{built_of, ladders_after, labels_after};
+ghost use Rattle.table.specs.Build.{built_of, built_said, ladders_after, labels_after};
 ghost use Rattle.route.specs.Answer.{ending_of, route_after};
 ghost use Rattle.listing.specs.List as list;
 ghost use Rattle.desk.specs.Packed.{pack, packed};
-ghost use Rattle.desk.specs.Calls.{request_from, request_words, request_after, built_said, ending_said, costs_lent};
+ghost use Rattle.desk.specs.Calls.{request_from, request_words, request_after, ending_said, costs_lent};
 
-use listing::Listed;
 use request::{Refusal, Request};
 use route::Ending;
-use sheet::{Outcome, Writing};
-use table::Built;
 
 // number × 2^48 + low: the byte between them is 0.
 fn pack(number: u32, low: u64) -> u64
@@ -28,24 +25,22 @@ fn pack(number: u32, low: u64) -> u64
 
 // A refusal, packed: its number and its place.
 fn pack_refusal(refusal: Refusal) -> u64
-    requires { refusal.number < 65536 }
     ensures { result ≡ packed (refusal_said refusal) }
 {
-    let place = refusal.place as u64;
-    pack(refusal.number, place)
+    pack(refusal.number(), refusal.place() as u64)
 }
 
-// The request that eight words are.
+// The request that eight words are. No `From`, here and below: both types are another crate's, and the eight words are of this call for C alone.
 fn request_from(words: &[u32; 8]) -> Request
     ensures { result ≡ request_from words.now }
 {
-    let ratios = [words[4], words[5], words[6], words[7]];
+    let [nodes, criteria, source, hops, p1, q1, p2, q2] = *words;
     Request {
-        nodes: words[0],
-        criteria: words[1],
-        source: words[2],
-        hops: words[3],
-        ratios,
+        nodes,
+        criteria,
+        source,
+        hops,
+        ratios: [p1, q1, p2, q2],
     }
 }
 
@@ -53,56 +48,48 @@ fn request_from(words: &[u32; 8]) -> Request
 fn put_request(request: Request, words: &mut [u32; 8])
     ensures { words.new ≡ request_words request }
 {
-    let ratios = request.ratios;
+    let [p1, q1, p2, q2] = request.ratios;
     *words = [
         request.nodes,
         request.criteria,
         request.source,
         request.hops,
-        ratios[0],
-        ratios[1],
-        ratios[2],
-        ratios[3],
+        p1,
+        q1,
+        p2,
+        q2,
     ];
 }
 
 // Reads a sheet: its request goes to the eight words, its arcs to the front of the lent arc words, and the answer is the
 // count of arc words. A refusal leaves both as they came.
-#[unsafe(no_mangle)]
-pub extern "C" fn gowkaroo_read(sheet: &[u8], request: &mut [u32; 8], arcs: &mut [u32]) -> u64
+pub fn gowkaroo_read(sheet: &[u8], request: &mut [u32; 8], arcs: &mut [u32]) -> u64
     ensures value { result ≡ packed (read_says sheet.now (length arcs.old)) }
     ensures request_after { request.new ≡ request_after sheet.now (length arcs.old) request.old }
     ensures arcs_after { arcs.new ≡ arcs_after sheet.now arcs.old }
 {
-    let reading = sheet::read(sheet, arcs);
-    let outcome = reading.outcome;
-    match outcome {
-        Outcome::Refused(refusal) => pack_refusal(refusal),
-        Outcome::Sheet(words) => {
-            let read = reading.request;
-            put_request(read, request);
-            pack(0, words as u64)
+    match sheet::read(sheet, arcs) {
+        Err(refusal) => pack_refusal(refusal),
+        Ok(reading) => {
+            put_request(reading.request, request);
+            pack(0, reading.words as u64)
         }
     }
 }
 
 // Writes the sheet of a request and its arcs to the front of the lent bytes: the answer is its length in bytes.
-#[unsafe(no_mangle)]
-pub extern "C" fn gowkaroo_write(request: &[u32; 8], arcs: &[u32], sheet: &mut [u8]) -> u64
+pub fn gowkaroo_write(request: &[u32; 8], arcs: &[u32], sheet: &mut [u8]) -> u64
     ensures value { result ≡ packed (write_says (request_from request.now) arcs.now (length sheet.old)) }
     ensures sheet_after { sheet.new ≡ sheet_after (request_from request.now) arcs.now sheet.old }
 {
-    let from = request_from(request);
-    let writing = sheet::write(from, arcs, sheet);
-    match writing {
-        Writing::Refused(refusal) => pack_refusal(refusal),
-        Writing::Bytes(bytes) => pack(0, bytes as u64),
+    match sheet::write(request_from(request), arcs, sheet) {
+        Err(refusal) => pack_refusal(refusal),
+        Ok(bytes) => pack(0, bytes as u64),
     }
 }
 
 // Draws up the table of a request in the two lent buffers: the answer is the sum of all tries.
-#[unsafe(no_mangle)]
-pub extern "C" fn gowkaroo_build(
+pub fn gowkaroo_build(
     request: &[u32; 8],
     arcs: &[u32],
     ladders: &mut [u32],
@@ -112,18 +99,15 @@ pub extern "C" fn gowkaroo_build(
     ensures ladders_after { ladders.new ≡ ladders_after (asked (request_from request.now) arcs.now) ladders.old (length labels.old) }
     ensures labels_after { labels.new ≡ labels_after (asked (request_from request.now) arcs.now) (length ladders.old) labels.old }
 {
-    let from = request_from(request);
-    let built = table::build(from, arcs, ladders, labels);
-    match built {
-        Built::Refused(refusal) => pack_refusal(refusal),
-        Built::Tries(tries) => pack(0, tries),
+    match table::build(request_from(request), arcs, ladders, labels) {
+        Err(refusal) => pack_refusal(refusal),
+        Ok(tries) => pack(0, tries),
     }
 }
 
 // Reads the label of a layer, node and cell back as a route: its costs go to the three words, its arc numbers in travel
 // order to the front of the lent route words, and the answer is its arc count. An empty cell or a refusal leaves both.
-#[unsafe(no_mangle)]
-pub extern "C" fn gowkaroo_read_back(
+pub fn gowkaroo_read_back(
     request: &[u32; 8],
     arcs: &[u32],
     labels: &[u32],
@@ -139,13 +123,12 @@ pub extern "C" fn gowkaroo_read_back(
 {
     let from = request_from(request);
     let back = route::read_back(from, arcs, labels, layer, node, cell, route);
-    let ending = back.ending;
-    match ending {
+    match back.ending {
         Ending::Refused(refusal) => pack_refusal(refusal),
         Ending::Empty => pack(15, 0),
         Ending::Route(count) => {
-            let own = back.costs;
-            *costs = own;
+            let found = back.costs;
+            *costs = found;
             pack(0, count as u64)
         }
     }
@@ -153,14 +136,12 @@ pub extern "C" fn gowkaroo_read_back(
 
 // Lists a sheet: reader, build and listing, with arc, ladder and label words of its own. The listing goes to the front of
 // the lent bytes, and the answer is its length in bytes. A refusal leaves them as they came.
-#[unsafe(no_mangle)]
-pub extern "C" fn gowkaroo_list(sheet: &[u8], listing: &mut [u8]) -> u64
+pub fn gowkaroo_list(sheet: &[u8], listing: &mut [u8]) -> u64
     ensures value { result ≡ packed (list.said (list.listed_of sheet.now (length listing.old))) }
     ensures listing_after { listing.new ≡ list.listing_after sheet.now listing.old }
 {
-    let listed = listing::list(sheet, listing);
-    match listed {
-        Listed::Refused(refusal) => pack_refusal(refusal),
-        Listed::Bytes(bytes) => pack(0, bytes as u64),
+    match listing::list(sheet, listing) {
+        Err(refusal) => pack_refusal(refusal),
+        Ok(listed) => pack(0, listed as u64),
     }
 }

@@ -5,11 +5,11 @@ ghost use Rattle.std.specs.Prelude.{◌≡◌, length};
 ghost use Rattle.request.specs.Request.{asked};
 ghost use Rattle.sheet.specs.Reader.{read_says, arcs_after};
 ghost use Rattle.sheet.specs.Writer.{write_says, sheet_after};
-ghost use Rattle.table.specs.Build.{built_of, ladders_after, labels_after};
+ghost use Rattle.table.specs.Build.{built_of, built_said, ladders_after, labels_after};
 ghost use Rattle.route.specs.Answer.{ending_of, route_after};
 ghost use Rattle.listing.specs.List as list;
 ghost use Rattle.desk.specs.Packed.{packed};
-ghost use Rattle.desk.specs.Calls.{request_from, request_after, built_said, ending_said, costs_lent};
+ghost use Rattle.desk.specs.Calls.{request_from, request_after, ending_said, costs_lent};
 
 // Reads a sheet: its request goes to the eight words, its arcs to the front of the lent arc words, and the answer is the
 // count of arc words. A refusal leaves both as they came.

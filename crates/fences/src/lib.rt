@@ -5,51 +5,50 @@ ghost use Rattle.std.specs.Prelude.{◌≡◌, ◌+◌, ◌≤◌, ◌<◌, leng
 ghost use Rattle.fences.specs.Fence.{next, fences, buckets};
 ghost use Rattle.fences.specs.Answer.{buckets_of, Bracket, Slot};
 
-// A ladder top's bucket count, or that it is over 4,096.
+// A ratio p over q, at most 1.
 #[derive(Clone, Copy)]
-pub enum Buckets {
-    Count(u32),
-    Over,
+pub struct Ratio {
+    pub p: u32,
+    pub q: u32,
+    ghost q_positive: { 0 < q },
+    ghost p_within: { p ≤ q },
 }
 
-// The fence after b.
-fn next_fence(p: u32, q: u32, b: u32) -> u32
-    requires { (0 < q) × (p ≤ q) × (b ≤ 134217728) }
-    ensures { result ≡ next p q b }
-{
-    let wide = (b as u64) * ((p as u64) + (q as u64)) / (q as u64) + 1;
-    wide as u32
-}
-
-// The bucket count of a ladder top, which is at most 63 hops of 1,000,000.
-pub fn count(p: u32, q: u32, top: u32) -> Buckets
-    requires { (0 < q) × (p ≤ q) × (top ≤ 63000000) }
-    ensures { result ≡ buckets_of p q top }
-{
-    let mut b: u32 = 0;
-    let mut j: u32 = 0;
-    while j < 4096 {
-        let n = next_fence(p, q, b);
-        if top < n {
-            return Buckets::Count(j + 1);
-        }
-        b = n;
-        j += 1;
+impl Ratio {
+    // The fence after b.
+    fn next_fence(self, b: u32) -> u32
+        requires { b ≤ 134217728 }
+        ensures { result ≡ next self.p self.q b }
+    {
+        let wide = (b as u64) * ((self.p as u64) + (self.q as u64)) / (self.q as u64) + 1;
+        wide as u32
     }
-    Buckets::Over
-}
 
-// The lent part becomes fences 0, 1, .. of the ratio; it is no longer than the ladder of the largest top.
-pub fn fill(ladder: &mut [u32], p: u32, q: u32)
-    requires { (0 < q) × (p ≤ q) × (length ladder.old ≤ buckets p q 63000000 + 1) }
-    ensures { ladder.new ≡ fences p q (length ladder.old) }
-{
-    let mut b: u32 = 0;
-    let mut k: usize = 0;
-    while k < ladder.len() {
-        ladder[k] = b;
-        b = next_fence(p, q, b);
-        k += 1;
+    // The bucket count of a ladder top, which is at most 63 hops of 1,000,000; none where it is over 4,096.
+    pub fn count(self, top: u32) -> Option<u32>
+        requires { top ≤ 63000000 }
+        ensures { result ≡ buckets_of self.p self.q top }
+    {
+        let mut b = 0;
+        for j in 0..4096 {
+            b = self.next_fence(b);
+            if top < b {
+                return Some(j + 1);
+            }
+        }
+        None
+    }
+
+    // The lent part becomes fences 0, 1, .. of the ratio; it is no longer than the ladder of the largest top.
+    pub fn fill(self, ladder: &mut [u32])
+        requires { length ladder.old ≤ buckets self.p self.q 63000000 + 1 }
+        ensures { ladder.new ≡ fences self.p self.q (length ladder.old) }
+    {
+        let mut b = 0;
+        for fence in ladder.iter_mut() {
+            *fence = b;
+            b = self.next_fence(b);
+        }
     }
 }
 
@@ -59,6 +58,7 @@ fn climb(ladder: &[u32], c: u32, from: usize) -> usize
     ensures { Slot ladder.now c result }
 {
     let mut j = from;
+    // A chain is no plainer: `from + ladder[from + 1..].iter().take_while(|fence| **fence <= c).count()`.
     while ladder[j + 1] <= c {
         j += 1;
     }
@@ -73,6 +73,7 @@ pub fn seek(ladder: &[u32], c: u32, hint: usize) -> usize
     ensures { Slot ladder.now c result }
 {
     let mut j = hint;
+    // A chain is no plainer: `hint - ladder[..=hint].iter().rev().take_while(|fence| c < **fence).count()`.
     while c < ladder[j] {
         j -= 1;
     }

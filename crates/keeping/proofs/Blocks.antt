@@ -12,7 +12,8 @@ use Rattle.words.proofs.Choices.{cond_cases}
 use Rattle.words.proofs.Pieces.{piece-end, at_length, join-zero, join-length}
 use Rattle.words.proofs.Turns.{join-put}
 use Rattle.words.proofs.Writes.{length_part, part-part, length-write, lent, part-write-inside, part-write-below, drop-write-above, write-part, write-over}
-use Rattle.keeping.specs.Kept.{keep_words, kept_block, Noted, KeptIn}
+use Rattle.keeping.specs.declared.Note.{Note}
+use Rattle.keeping.specs.Kept.{keep_words, kept_block, unnoted, Noted, KeptIn}
 use Rattle.keeping.proofs.Notes.{Says, none-noted, one-noted}
 
 -- a part of zeros
@@ -49,14 +50,14 @@ module _ (xs : List ℕ) (n d prev base : ℕ) (p : KeptIn xs n d prev base) whe
 -- ---- keeping, from the cleared words ys
 
 -- the labels before c are kept and noted, and `at` and `to` stand at label c
-pub record Along (ys : List ℕ) (n d prev base : ℕ) (ls : List ℕ) (filled low high at₁ to c : ℕ) : Type 0 where
+pub record Along (ys : List ℕ) (n d prev base : ℕ) (ls : List ℕ) (note : Note) (at₁ to c : ℕ) : Type 0 where
   pub inside : c ≤ n
   pub from_place : at₁ ≡ prev + c * (d + 2)
   pub to_place : to ≡ base + c * (d + 2)
   pub words : ls ≡ write ys base (kept_block d c (part ys prev (n * (d + 2))))
-  pub noted : Noted d (part ys prev (n * (d + 2))) c filled low high
+  pub noted : Noted d (part ys prev (n * (d + 2))) c note
 
-pub none_kept : (ys : List ℕ) (n d prev base : ℕ) → Along ys n d prev base ys 0 0 0 prev base 0
+pub none_kept : (ys : List ℕ) (n d prev base : ℕ) → Along ys n d prev base ys unnoted prev base 0
 unfolding kept_block
 none_kept ys n d prev base = record {
   inside = zero-le;
@@ -83,7 +84,7 @@ module _ (xs ys : List ℕ) (n d prev base : ℕ) (p : KeptIn xs n d prev base) 
   unfolding kept_block
   front_long c h = join-length (d + 2) (λ c. keep_words d (at (d + 2) F c)) c (λ k l. keep-long d (at (d + 2) F k) (at_length (d + 2) F n whole k (omega arith)))
 
-  module _ (ls : List ℕ) (filled low high at₁ to c : ℕ) (g : Along ys n d prev base ls filled low high at₁ to c) where
+  module _ (ls : List ℕ) (note : Note) (at₁ to c : ℕ) (g : Along ys n d prev base ls note at₁ to c) where
     pub along-long : length ls ≡ length xs
     along-long = ap length g.words ∙ length-write ys base (kept_block d c F) ∙ same-long
 
@@ -124,10 +125,10 @@ module _ (xs ys : List ℕ) (n d prev base : ℕ) (p : KeptIn xs n d prev base) 
           ∙ sym (part-part ys prev (n * (d + 2)) (c * (d + 2)) (d + 2) h)
 
       -- label c, behind those before it
-      pub one_label : (ls' : List ℕ) (s f₁ l₁ h₁ : ℕ) → ls' ≡ write ls to (keep_words d (part ls at₁ (d + 2))) → s ≡ get_or (part ls at₁ (d + 2)) d 0 → Says filled low high s c f₁ l₁ h₁
-          → Along ys n d prev base ls' f₁ l₁ h₁ (at₁ + (d + 2)) (to + (d + 2)) (c + 1)
+      pub one_label : (ls' : List ℕ) (s : ℕ) (m : Note) → ls' ≡ write ls to (keep_words d (part ls at₁ (d + 2))) → s ≡ get_or (part ls at₁ (d + 2)) d 0 → Says note s c m
+          → Along ys n d prev base ls' m (at₁ + (d + 2)) (to + (d + 2)) (c + 1)
       unfolding kept_block
-      one_label ls' s f₁ l₁ h₁ e e-s says =
+      one_label ls' s note' e e-s says =
           let f = front_long c g.inside in
           let m = add-mul c 1 (d + 2) in
           let o = one-mul (d + 2) in
@@ -137,16 +138,16 @@ module _ (xs ys : List ℕ) (n d prev base : ℕ) (p : KeptIn xs n d prev base) 
             from_place = omega (arith, g.from_place);
             to_place = omega (arith, g.to_place);
             words = join-put (λ c. keep_words d (at (d + 2) F c)) ys ls ls' base to c place g.words (e ∙ ap (λ (x : List ℕ). write ls to (keep_words d x)) label_is);
-            noted = one-noted d F c filled low high g.noted s f₁ l₁ h₁ (e-s ∙ ap (λ (x : List ℕ). get_or x d 0) label_is) says;
+            noted = one-noted d F c note g.noted s note' (e-s ∙ ap (λ (x : List ℕ). get_or x d 0) label_is) says;
           }
 
     -- all of them, over what was cleared
-    pub all-kept : c ≡ n → (ls ≡ write xs base (kept_block d n (part xs prev (n * (d + 2))))) × Noted d (part xs prev (n * (d + 2))) n filled low high
+    pub all-kept : c ≡ n → (ls ≡ write xs base (kept_block d n (part xs prev (n * (d + 2))))) × Noted d (part xs prev (n * (d + 2))) n note
     all-kept e = (
       g.words
           ∙ ap (λ (k : ℕ). write ys base (kept_block d k F)) e
           ∙ ap (λ (x : List ℕ). write x base (kept_block d n F)) cleared
           ∙ write-over xs base (replicate (n * (d + 2)) 0) (kept_block d n F) (le_of_eq (length-replicate (n * (d + 2)) 0 ∙ sym (front_long n (le_refl n))))
           ∙ ap (λ (x : List ℕ). write xs base (kept_block d n x)) before-is,
-      subst (λ (k : ℕ). Noted d (part xs prev (n * (d + 2))) k filled low high) e (subst (λ (x : List ℕ). Noted d x c filled low high) before-is g.noted),
+      subst (λ (k : ℕ). Noted d (part xs prev (n * (d + 2))) k note) e (subst (λ (x : List ℕ). Noted d x c note) before-is g.noted),
     )

@@ -5,6 +5,7 @@ use Rattle.words.specs.Pieces.{at, join}
 use Rattle.rounds.specs.Label.{label}
 use Rattle.rounds.specs.Rounds.{bit}
 use Rattle.rounds.specs.Passing.{Quiet}
+use Rattle.keeping.specs.declared.Note.{Note}
 
 -- `keep_cell`: a filled label kept, an empty one for an empty one
 unfoldable pub keep_words : ℕ → List ℕ → List ℕ
@@ -24,13 +25,17 @@ step_in d F c = get_or (at (d + 2) F c) d 0
 unfoldable pub filled_of : ℕ → List ℕ → ℕ → ℕ
 filled_of d F n = total (λ c. bit (ltb 0 (step_in d F c))) n
 
+-- nothing noted
+abbrev pub unnoted : Note
+unnoted = record { filled = 0; low = 0; high = 0 }
+
 -- of the first n cells of F so many are filled, and outside the cells from `low` up to `high` all are empty or kept
-pub record Noted (d : ℕ) (F : List ℕ) (n filled low high : ℕ) : Type 0 where
-  pub count : filled ≡ filled_of d F n
-  pub ordered : low ≤ high
-  pub inside : high ≤ n
-  pub before : (c : ℕ) → c < low → Quiet (step_in d F c)
-  pub after : (c : ℕ) → high ≤ c → c < n → Quiet (step_in d F c)
+pub record Noted (d : ℕ) (F : List ℕ) (n : ℕ) (note : Note) : Type 0 where
+  pub count : note.filled ≡ filled_of d F n
+  pub ordered : note.low ≤ note.high
+  pub inside : note.high ≤ n
+  pub before : (c : ℕ) → c < note.low → Quiet (step_in d F c)
+  pub after : (c : ℕ) → note.high ≤ c → c < n → Quiet (step_in d F c)
 
 -- ---- what the functions ask
 
@@ -41,14 +46,14 @@ pub record KeptIn (labels : List ℕ) (n d prev base : ℕ) : Type 0 where
   pub few : d ≤ 3
   pub small : n ≤ 1048576
 
--- so the m blocks of n labels each, with a place for the notes of each
-pub record LayersIn (labels filled lows highs : List ℕ) (m n d prev base : ℕ) : Type 0 where
+-- so the m blocks of n labels each, with a place for the note of each
+pub record LayersIn (labels : List ℕ) (notes : List Note) (m n d prev base : ℕ) : Type 0 where
   pub below : prev + m * (n * (d + 2)) ≤ base
   pub inside : base + m * (n * (d + 2)) ≤ length labels
   pub few : d ≤ 3
   pub small : n ≤ 1048576
-  pub places : (m ≤ length filled) × (m ≤ length lows) × (m ≤ length highs)
+  pub places : m ≤ length notes
 
--- each of the first m blocks of L is noted
-unfoldable pub NotedAll : ℕ → ℕ → List ℕ → ℕ → List ℕ → List ℕ → List ℕ → Type 0
-NotedAll d n L m filled lows highs = (v : ℕ) → v < m → Noted d (at (n * (d + 2)) L v) n (get_or filled v 0) (get_or lows v 0) (get_or highs v 0)
+-- each of the first m blocks of L is noted in its place
+unfoldable pub NotedAll : ℕ → ℕ → List ℕ → ℕ → List Note → Type 0
+NotedAll d n L m notes = (v : ℕ) → v < m → Noted d (at (n * (d + 2)) L v) n (get_or notes v unnoted)

@@ -10,12 +10,41 @@ ghost use Rattle.keeping.specs.Kept.{keep_words, kept_block, Noted, KeptIn, Laye
 
 use words::clear;
 
-// What is noted of a block: how many of its labels are filled, and a range of cells outside which all are empty or kept.
+// What is noted of a block: how many of its labels are filled, and a range of cells outside which all are empty or kept. The range is empty,
+// 0 to 0, until the first cell that is neither.
 #[derive(Clone, Copy)]
-struct Note {
-    filled: u64,
-    low: usize,
-    high: usize,
+pub struct Note {
+    pub filled: u64,
+    pub low: usize,
+    pub high: usize,
+}
+
+// What is noted before the first cell.
+pub const UNNOTED: Note = Note {
+    filled: 0,
+    low: 0,
+    high: 0,
+};
+
+impl Note {
+    // This, and the step of cell c.
+    fn with(self, step: u32, c: usize) -> Note
+        requires { (self.filled ≤ c) × (c < 1048576) }
+        ensures { (result.filled ≡ self.filled + bit (ltb 0 step)) × (result.low ≡ cond (quiet step) self.low (cond (eqb self.high 0) c self.low)) × (result.high ≡ cond (quiet step) self.high (c + 1)) }
+    {
+        match step {
+            0 => self,
+            2 => Note {
+                filled: self.filled + 1,
+                ..self
+            },
+            _ => Note {
+                filled: self.filled + 1,
+                low: if self.high == 0 { c } else { self.low },
+                high: c + 1,
+            },
+        }
+    }
 }
 
 // The costs of the label at `at`, kept at `to`, word by word.
@@ -23,10 +52,8 @@ fn keep_costs(labels: &mut [u32], at: usize, to: usize, d: usize)
     requires { (at + d + 2 ≤ to) × (to + d + 2 ≤ length labels.old) }
     ensures { labels.new ≡ write labels.old to (label (part labels.old at d) 2 0) }
 {
-    let mut k = 0;
-    while k < d {
+    for k in 0..d {
         labels[to + k] = labels[at + k];
-        k += 1;
     }
     labels[to + d] = 2;
     labels[to + d + 1] = 0;
@@ -45,60 +72,23 @@ fn keep(labels: &mut [u32], at: usize, to: usize, d: usize) -> u32
     step
 }
 
-// What is noted, with the step of cell c more.
-fn note_step(n: Note, step: u32, c: usize) -> Note
-    requires { (n.filled ≤ c) × (c < 1048576) }
-    ensures { (result.filled ≡ n.filled + bit (ltb 0 step)) × (result.low ≡ cond (quiet step) n.low (cond (eqb n.high 0) c n.low)) × (result.high ≡ cond (quiet step) n.high (c + 1)) }
-{
-    if step == 0 {
-        return n;
-    }
-    let filled = n.filled + 1;
-    if step == 2 {
-        return Note {
-            filled,
-            low: n.low,
-            high: n.high,
-        };
-    }
-    let high = c + 1;
-    if n.high == 0 {
-        return Note {
-            filled,
-            low: c,
-            high,
-        };
-    }
-    Note {
-        filled,
-        low: n.low,
-        high,
-    }
-}
-
 // The block of n labels at `prev` is kept at `base`: what is noted of it.
 fn keep_block(labels: &mut [u32], n: usize, d: usize, prev: usize, base: usize) -> Note
     requires { KeptIn labels.old n d prev base }
     ensures labels_after { labels.new ≡ write labels.old base (kept_block d n (part labels.old prev (n * (d + 2)))) }
-    ensures noted { Noted d (part labels.old prev (n * (d + 2))) n result.filled result.low result.high }
+    ensures noted { Noted d (part labels.old prev (n * (d + 2))) n result }
 {
     let w = d + 2;
     let end = base + n * w;
     clear(&mut labels[base..end]);
-    let mut noted = Note {
-        filled: 0,
-        low: 0,
-        high: 0,
-    };
+    let mut noted = UNNOTED;
     let mut at = prev;
     let mut to = base;
-    let mut c = 0;
-    while c < n {
+    for c in 0..n {
         let step = keep(labels, at, to, d);
-        noted = note_step(noted, step, c);
+        noted = noted.with(step, c);
         at += w;
         to += w;
-        c += 1;
     }
     noted
 }
@@ -106,30 +96,23 @@ fn keep_block(labels: &mut [u32], n: usize, d: usize, prev: usize, base: usize) 
 // The layer of m blocks of n labels at `prev` is kept at `base`, and what is noted of each block put in its place.
 pub fn keep_layer(
     labels: &mut [u32],
-    filled: &mut [u64],
-    lows: &mut [usize],
-    highs: &mut [usize],
+    notes: &mut [Note],
     m: usize,
     n: usize,
     d: usize,
     prev: usize,
     base: usize,
 )
-    requires { LayersIn labels.old filled.old lows.old highs.old m n d prev base }
+    requires { LayersIn labels.old notes.old m n d prev base }
     ensures labels_after { labels.new ≡ write labels.old base (join (λ v. kept_block d n (at (n * (d + 2)) (part labels.old prev (m * (n * (d + 2)))) v)) m) }
-    ensures noted_all { NotedAll d n (part labels.old prev (m * (n * (d + 2)))) m filled.new lows.new highs.new }
+    ensures noted_all { NotedAll d n (part labels.old prev (m * (n * (d + 2)))) m notes.new }
 {
     let span = n * (d + 2);
     let mut at = prev;
     let mut to = base;
-    let mut v = 0;
-    while v < m {
-        let noted = keep_block(labels, n, d, at, to);
-        filled[v] = noted.filled;
-        lows[v] = noted.low;
-        highs[v] = noted.high;
+    for v in 0..m {
+        notes[v] = keep_block(labels, n, d, at, to);
         at += span;
         to += span;
-        v += 1;
     }
 }

@@ -6,17 +6,14 @@ ghost use Rattle.rounds.specs.Label.{label, sum};
 ghost use Rattle.labels.specs.Words.{wins_over, Adds, Seeks, FoundAt, SameFrom};
 
 use fences::seek;
-use words::copy;
 
 // The candidate that a label's costs, an arc's costs and two words make.
 pub fn add_costs(out: &mut [u32], lab: &[u32], arc: &[u32], d: usize, step: u32, from: u32)
     requires { Adds d out.old lab.now arc.now }
     ensures { out.new ≡ label (sum (take d lab.now) (drop 2 arc.now)) step from }
 {
-    let mut k = 0;
-    while k < d {
+    for k in 0..d {
         out[k] = lab[k] + arc[k + 2];
-        k += 1;
     }
     out[d] = step;
     out[d + 1] = from;
@@ -27,10 +24,7 @@ fn wins(cand: &[u32], cell: &[u32], d: usize) -> bool
     requires { (length cand.now ≡ d + 2) × (length cell.now ≡ d + 2) × (1 ≤ d) }
     ensures { result ≡ wins_over d cand.now cell.now }
 {
-    if cell[d] == 0 {
-        return true;
-    }
-    cand[d - 1] < cell[d - 1]
+    cell[d] == 0 || cand[d - 1] < cell[d - 1]
 }
 
 // A candidate is offered to a cell.
@@ -39,7 +33,7 @@ pub fn place(cell: &mut [u32], cand: &[u32], d: usize)
     ensures { cell.new ≡ cond (wins_over d cand.now cell.old) cand.now cell.old }
 {
     if wins(cand, cell, d) {
-        copy(cell, cand);
+        cell.copy_from_slice(cand);
     }
 }
 
@@ -58,15 +52,13 @@ pub fn find_cell(
 {
     let mut cell: usize = 0;
     let mut at: usize = 0;
-    let mut j: usize = 0;
-    while j < graded {
+    for j in 0..graded {
         let size = counts[j];
         let end = at + size + 1;
         let found = seek(&ladders[at..end], cand[j], places[j]);
         places[j] = found;
         cell = cell * size + found;
         at = end;
-        j += 1;
     }
     cell
 }

@@ -15,8 +15,7 @@ fn list<R: Read, W: Write>(input: &mut R, out: &mut W) -> io::Result<()>
     // One byte more than a sheet may have, so that a longer one is seen to be longer.
     let mut sheet = [0u8; 8193];
     let n = printer::read_full(input, &mut sheet)?;
-    let printing = printer::print(out, &sheet[..n]);
-    printing.written
+    printer::print(out, &sheet[..n]).written
 }
 
 fn main(rt: HostRuntime) -> io::Result<()> {

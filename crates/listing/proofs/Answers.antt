@@ -1,25 +1,26 @@
 -- An answer's numbers tell the answer, two answers that the promise allows are the same, and what is listed is a walk. Assumes nothing.
 use Prim.Native.Nat.{ℕ, ◌<◌}
-use mathlib.Core.Path.{◌≡◌, sym, ap, ◌∙◌, subst}
+use mathlib.Core.Path.{◌≡◌, sym, ap, ap₂, ◌∙◌, subst}
 use mathlib.Core.List.{List}
 use native.Mathlib.Nat.{le_refl}
 use native.Mathlib.Omega.{arith}
 use lib.ListN.{length}
 use lib.Dec.{T}
+use Rattle.std.specs.Prelude.{Result, Ok, Err}
 use Rattle.request.specs.declared.Request.{Request}
 use Rattle.request.specs.Request.{Req, asked}
 use Rattle.request.specs.Shape.{cells}
 use Rattle.request.specs.Accepted.{Accepted}
+use Rattle.request.specs.declared.Refusal.{Refusal}
+use Rattle.request.specs.Refusal.{number_of, place_of, refusal_of}
 use Rattle.request.proofs.Accepted.{accepted-regular}
-use Rattle.sheet.proofs.Answers.{same-refusal}
+use Rattle.request.proofs.Named.{refusal-of}
 use Rattle.rounds.specs.Label.{costs, filled}
 use Rattle.rounds.specs.Rounds.{table}
 use Rattle.route.specs.Answer.{arcs_of}
 use Rattle.route.specs.Walked.{Walked, Sound}
 use Rattle.route.proofs.Sound.{chain-sound}
 use Rattle.route.proofs.Tables.{table-whole}
-use Rattle.listing.specs.declared.Listed.{Listed}
-use Rattle.listing.specs.declared.Listed.TheVariants.{Bytes, Refused}
 use Rattle.listing.specs.Listing.{last_label, last_route}
 use Rattle.listing.specs.List.{said, listed_of, listing_after}
 use Rattle.listing.proofs.Suffices.{front, last-is}
@@ -27,14 +28,17 @@ use Rattle.listing.proofs.Suffices.{front, last-is}
 -- ---- one to one
 
 -- two answers that say the same are the same
-pub said-once : (a b : Listed) → said a ≡ said b → a ≡ b
-said-once (Bytes m) (Bytes n) e = let q : m ≡ n = cc in ap Bytes q
-said-once (Bytes m) (Refused r) e = absurd (omega (arith, ap (length {A = ℕ}) e))
-said-once (Refused r) (Bytes n) e = absurd (omega (arith, ap (length {A = ℕ}) e))
-said-once (Refused q) (Refused r) e = ap Refused (same-refusal q r e)
+pub said-once : (a b : Result ℕ Refusal) → said a ≡ said b → a ≡ b
+said-once (Ok m) (Ok n) e = let q : m ≡ n = cc in ap Ok q
+said-once (Ok m) (Err r) e = absurd (omega (arith, ap (length {A = ℕ}) e))
+said-once (Err r) (Ok n) e = absurd (omega (arith, ap (length {A = ℕ}) e))
+said-once (Err q) (Err r) e =
+    let n : number_of q ≡ number_of r = cc in
+    let p : place_of q ≡ place_of r = cc in
+    ap Err (sym (refusal-of q) ∙ ap₂ refusal_of n p ∙ refusal-of r)
 
 -- two answers that the promise of `list` allows are the same, and so are the bytes
-pub lists-once : (s bytes : List ℕ) (a b : Listed) (x y : List ℕ) → a ≡ listed_of s (length bytes) → b ≡ listed_of s (length bytes) → x ≡ listing_after s bytes → y ≡ listing_after s bytes
+pub lists-once : (s bytes : List ℕ) (a b : Result ℕ Refusal) (x y : List ℕ) → a ≡ listed_of s (length bytes) → b ≡ listed_of s (length bytes) → x ≡ listing_after s bytes → y ≡ listing_after s bytes
     → (a ≡ b) × (x ≡ y)
 lists-once s bytes a b x y e f g h = (e ∙ sym f, g ∙ sym h)
 

@@ -4,6 +4,7 @@ use mathlib.Core.Path.{◌≡◌, refl}
 use mathlib.Core.List.{List, [], ◌∷◌}
 use native.Mathlib.Omega.{arith}
 use lib.ListN.{length}
+use Rattle.std.specs.Result.{result_unwrap_or}
 use Rattle.words.specs.Bounds.{AtMost}
 use Rattle.words.proofs.Bounds.{at_most-none, at_most-cons}
 use Rattle.request.specs.Request.{Req, arc_count, head}
@@ -13,10 +14,9 @@ use Rattle.route.specs.Answer.{arcs_of}
 use Rattle.route.specs.Links.{trail_of}
 use Rattle.route.specs.Walked.{Sound}
 use Rattle.route.proofs.Sound.{chain-sound}
-use Rattle.listing.specs.Print.{count_of}
 
--- the count that following a chain answers is its arcs'
-pub count-is : (k : Chain) → count_of (trail_of k) ≡ length (arcs_of k)
+-- the count that following a chain answers, 0 where it breaks, is its arcs'
+pub count-is : (k : Chain) → result_unwrap_or (trail_of k) 0 ≡ length (arcs_of k)
 count-is (whole ws) = refl
 count-is (broken i) = refl
 

@@ -1,12 +1,13 @@
 -- The numbers of a label's line, stored part by part: the node, the costs, the arcs behind them, and the arc count between. Assumes nothing.
 use Prim.Native.Nat.{ℕ, zero, suc, ◌+◌, ◌-◌, ◌≤◌}
-use mathlib.Core.Path.{◌≡◌, refl, sym, ap, ◌∙◌}
+use mathlib.Core.Path.{◌≡◌, refl, sym, ap, ap₂, ◌∙◌}
 use mathlib.Core.List.{List, [], ◌∷◌, ◌++◌}
 use native.Mathlib.Nat.{add-zero}
 use native.Mathlib.Omega.{arith}
-use lib.ListN.{length, take, drop, set, length-set}
+use lib.ListN.{length, take, drop, set, length-set, length-append}
+use borrow.Rule.Slice.PartMut.{put_mid}
 use Rattle.words.specs.Pieces.{part, write}
-use Rattle.words.proofs.Writes.{length_part, length-write, lent, write-nest, write-append, set-write, write-none}
+use Rattle.words.proofs.Writes.{length_part, length-write, lent, write-nest, write-append, set-write, write-none, part-write-same}
 
 -- a word stored right before others
 before : (xs : List ℕ) (a v : ℕ) (ys : List ℕ) → write (write xs (suc a) ys) a (v ∷ []) ≡ write xs a (v ∷ ys)
@@ -43,7 +44,7 @@ numbers-put xs x₁ x₂ x₃ x₄ cs ws v d n e p q r s =
 module _ (xs : List ℕ) (v d : ℕ) (ys : List ℕ) where
   -- after the node, and the costs lent behind it
   abbrev pub with-costs : List ℕ
-  with-costs = take 1 (set xs 0 v) ++ (ys ++ drop (d + 1 - 1) (drop 1 (set xs 0 v)))
+  with-costs = put_mid 1 (d + 1 - 1) (set xs 0 v) ys
 
   module _ (long : length xs ≡ 68) (few : d ≤ 3) (size : length ys ≡ d) where
     -- they are written behind the node
@@ -56,24 +57,31 @@ module _ (xs : List ℕ) (v d : ℕ) (ys : List ℕ) where
     pub costs-long : length with-costs ≡ 68
     costs-long = ap length costs-put ∙ length-write (set xs 0 v) 1 ys ∙ length-set xs 0 v ∙ long
 
-    module _ (ws zs : List ℕ) (short : length ws ≤ 63) (z : zs ≡ write (part with-costs (d + 2) (68 - (d + 2))) 0 ws) where
+    module _ (ws zs : List ℕ) (short : length ws ≤ 63) (z : zs ≡ write (part with-costs (d + 2) (length with-costs - (d + 2))) 0 ws) where
       -- after the arcs, lent behind the place of their count
       abbrev pub with-arcs : List ℕ
-      with-arcs = take (d + 2) with-costs ++ (zs ++ drop (68 - (d + 2)) (drop (d + 2) with-costs))
+      with-arcs = put_mid (d + 2) (length with-costs - (d + 2)) with-costs zs
 
       -- they are written behind it
       arcs-put : with-arcs ≡ write with-costs (d + 2) ws
       arcs-put =
-          ap (λ (l : List ℕ). take (d + 2) with-costs ++ (l ++ drop (68 - (d + 2)) (drop (d + 2) with-costs))) z
-          ∙ lent-front with-costs (d + 2) (68 - (d + 2)) ws (omega arith) (omega (arith, costs-long))
+          ap (λ (l : List ℕ). take (d + 2) with-costs ++ (l ++ drop (length with-costs - (d + 2)) (drop (d + 2) with-costs))) z
+          ∙ lent-front with-costs (d + 2) (length with-costs - (d + 2)) ws (omega (arith, costs-long)) (omega (arith, costs-long))
 
       -- and the words are as many as before
       pub arcs-long : length with-arcs ≡ 68
       arcs-long = ap length arcs-put ∙ length-write with-costs (d + 2) ws ∙ costs-long
 
       -- the count between makes the numbers whole
-      pub numbers-law : (cs : List ℕ) (n : ℕ) → ys ≡ cs → n ≡ length ws → set with-arcs (d + 1) n ≡ write xs 0 (v ∷ cs ++ length ws ∷ ws)
+      numbers-law : (cs : List ℕ) (n : ℕ) → ys ≡ cs → n ≡ length ws → set with-arcs (d + 1) n ≡ write xs 0 (v ∷ cs ++ length ws ∷ ws)
       numbers-law cs n e f =
           numbers-put xs (set xs 0 v) with-costs with-arcs (set with-arcs (d + 1) n) ys ws v d n size refl costs-put arcs-put refl
           ∙ ap (λ (l : List ℕ). write xs 0 (v ∷ l ++ n ∷ ws)) e
           ∙ ap (λ (k : ℕ). write xs 0 (v ∷ cs ++ k ∷ ws)) f
+
+      -- so they stand in front
+      pub numbers-front : (cs : List ℕ) (n : ℕ) → ys ≡ cs → n ≡ length ws → take (d + 2 + n) (set with-arcs (d + 1) n) ≡ v ∷ cs ++ length ws ∷ ws
+      numbers-front cs n e f =
+          let vs : List ℕ = v ∷ cs ++ length ws ∷ ws in
+          let k : d + 2 + n ≡ length vs = omega (arith, length-append cs (length ws ∷ ws), ap length e) in
+          ap₂ take k (numbers-law cs n e f) ∙ part-write-same xs 0 vs (omega arith)

@@ -36,11 +36,10 @@ use Rattle.route.specs.Walked.{Fronts}
 use Rattle.route.proofs.Tables.{label-in}
 use Rattle.route.proofs.Sound.{chain-short}
 use Rattle.listing.specs.Listing.{cover_word, last_label, last_route, filled_at, filled_of, filled_last, label_numbers, label_line, node_lines, label_lines, cover_line}
-use Rattle.listing.specs.Print.{Tabled}
 use Rattle.listing.specs.List.{asks, listing_of, request_rows, list_rows}
 use Rattle.listing.proofs.Chains.{chain-arcs}
 use Rattle.listing.proofs.Lengths.{three-digits, eight-digits, no-digits, parted-few, line-le, join-le, some-hops, no-hops}
-use Rattle.listing.proofs.Places.{costs-long, few-labels}
+use Rattle.listing.proofs.Places.{Tabled, costs-long, few-labels}
 use Rattle.listing.proofs.Prints.{listing-length}
 use Rattle.listing.proofs.Requests.{tabled}
 use Rattle.listing.proofs.Rooms.{tries-few}

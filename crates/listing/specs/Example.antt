@@ -1,7 +1,6 @@
 -- Document 01, "The lister": its printed input and output, byte by byte. Assumes nothing.
-use Rattle.std.specs.Prelude.{ℕ, ◌≡◌, List, [], ◌∷◌}
+use Rattle.std.specs.Prelude.{ℕ, ◌≡◌, List, [], ◌∷◌, Ok}
 use Rattle.listing.specs.List.{asks, listing_of, listed_of}
-use Rattle.listing.specs.declared.Listed.TheVariants as listed
 
 -- "Input", a line of the sheet to a line here
 unfoldable pub input : List ℕ
@@ -27,4 +26,4 @@ output =
 
 -- the input's listing is the output, and it is what is answered into a buffer of just its 74 bytes
 abbrev pub PrintedExample : Type 0
-PrintedExample = (listing_of (asks input) ≡ output) × (listed_of input 74 ≡ listed.Bytes 74)
+PrintedExample = (listing_of (asks input) ≡ output) × (listed_of input 74 ≡ Ok 74)

@@ -1,19 +1,17 @@
 -- Document 01, the C call's paragraph: "reader, build and listing with 12,288 label words of its own". Its refusal table, its answer, and the
 -- listing's bytes after it. Assumes nothing.
-use Rattle.std.specs.Prelude.{ℕ, ◌*◌, List, [], ◌∷◌, ◌++◌, length, ltb}
+use Rattle.std.specs.Prelude.{ℕ, ◌*◌, List, [], ◌∷◌, ◌++◌, length, ltb, Result, Ok, Err}
 use Rattle.words.specs.Pieces.{write}
-use Rattle.words.specs.Rows.{Row, Weighed, clear, refused, weigh, settle}
+use Rattle.words.specs.Rows.{Row, weigh, settle}
 use Rattle.request.specs.Request.{Req, asked, width}
 use Rattle.request.specs.Shape.{label_count}
 use Rattle.request.specs.Rows.{rows}
+use Rattle.request.specs.Refusal.{number_of, place_of, answer}
+use Rattle.request.specs.declared.Refusal.{Refusal}
 use Rattle.sheet.specs.Grammar.{sheet_of}
 use Rattle.sheet.specs.Reader.{words_of, request_of, form_rows}
 use Rattle.rounds.specs.Rounds.{table, tries}
 use Rattle.listing.specs.Listing.{listing_text}
-use Rattle.listing.specs.declared.Printed.{Printed}
-use Rattle.listing.specs.declared.Printed.TheVariants as printed
-use Rattle.listing.specs.declared.Listed.{Listed}
-use Rattle.listing.specs.declared.Listed.TheVariants as listed
 
 -- the request that a sheet asks, with its arcs
 unfoldable pub asks : List ℕ → Req
@@ -35,13 +33,8 @@ request_rows R room =
 unfoldable pub list_rows : List ℕ → ℕ → List Row
 list_rows s room = form_rows s ++ request_rows (asks s) room
 
--- "It answers the listing's length in bytes, or number and place"
-abbrev pub answer : Weighed → ℕ → Listed
-answer clear n = listed.Bytes n
-answer (refused n p) k = listed.Refused (record { number = n; place = p })
-
--- for a request: the answer, and the bytes afterwards
-unfoldable pub request_listed : Req → ℕ → Listed
+-- "It answers the listing's length in bytes, or number and place": for a request
+unfoldable pub request_listed : Req → ℕ → Result ℕ Refusal
 request_listed R room = answer (weigh (request_rows R room)) (length (listing_of R))
 
 -- and the bytes afterwards
@@ -49,7 +42,7 @@ unfoldable pub request_after : Req → List ℕ → List ℕ
 request_after R bytes = settle (weigh (request_rows R (length bytes))) (write bytes 0 (listing_of R)) bytes
 
 -- for a sheet: the answer
-unfoldable pub listed_of : List ℕ → ℕ → Listed
+unfoldable pub listed_of : List ℕ → ℕ → Result ℕ Refusal
 listed_of s room = answer (weigh (list_rows s room)) (length (listing_of (asks s)))
 
 -- and the bytes afterwards: the listing in front, what lies beyond as it was; all as it was on a refusal
@@ -57,11 +50,6 @@ unfoldable pub listing_after : List ℕ → List ℕ → List ℕ
 listing_after s bytes = settle (weigh (list_rows s (length bytes))) (write bytes 0 (listing_of (asks s))) bytes
 
 -- the paper's number and values of each answer: a listing has number 0, place 0 and its length in bytes, a refusal its number and place
-abbrev pub said : Listed → List ℕ
-said (listed.Bytes n) = 0 ∷ 0 ∷ n ∷ []
-said (listed.Refused r) = r.number ∷ r.place ∷ []
-
--- what was printed, as an answer
-abbrev pub printed_as : Printed → Listed
-printed_as (printed.Bytes n) = listed.Bytes n
-printed_as printed.Longer = listed.Refused (record { number = 13; place = 3 })
+abbrev pub said : Result ℕ Refusal → List ℕ
+said (Ok n) = 0 ∷ 0 ∷ n ∷ []
+said (Err r) = number_of r ∷ place_of r ∷ []

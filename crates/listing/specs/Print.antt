@@ -1,31 +1,23 @@
--- The printing of a text into lent bytes, where they are enough for it, and what the printing of a built table asks. Assumes nothing.
-use Rattle.std.specs.Prelude.{ℕ, ◌*◌, cond, ◌≡◌, List, length, ltb}
+-- The printing of a built table's listing: what was asked, how long a label's line is, and a text in lent bytes that may be too few. Assumes nothing.
+use Rattle.std.specs.Prelude.{ℕ, cond, List, length, ltb, Option, None, Some}
 use Rattle.words.specs.Pieces.{write}
-use Rattle.request.specs.Request.{Req, width}
-use Rattle.request.specs.Shape.{cells, label_count}
-use Rattle.request.specs.Accepted.{Regular, Small, Fits}
-use Rattle.route.specs.declared.Trail.{Trail}
-use Rattle.route.specs.declared.Trail.TheVariants as trail
-use Rattle.listing.specs.declared.Printed.{Printed}
-use Rattle.listing.specs.declared.Printed.TheVariants as printed
+use Rattle.request.specs.Request.{Req, asked}
+use Rattle.route.specs.declared.store.Store.{Store}
+use Rattle.rounds.specs.Label.{filled}
+use Rattle.listing.specs.Listing.{last_label, label_line}
 
--- the arc count of a chain that was followed; a broken one has no arcs
-abbrev pub count_of : Trail → ℕ
-count_of (trail.Whole n) = n
-count_of (trail.Broke i) = 0
+-- what was asked for the table whose labels a store has
+abbrev pub asked_in : Store → Req
+asked_in s = asked s.request s.arcs.now
 
--- the length of a text, or that it is "longer than the byte buffer"
-unfoldable pub printed_of : List ℕ → ℕ → Printed
-printed_of text room = cond (ltb room (length text)) printed.Longer (printed.Bytes (length text))
+-- how many bytes the line of node v, cell c takes, none where the label is empty
+unfoldable pub measured : Req → List ℕ → ℕ → ℕ → Option ℕ
+measured R W v c = cond (filled R (last_label R W v c)) (Some (length (label_line R W v c))) None
+
+-- the length of a text, or none where it is "longer than the byte buffer"
+unfoldable pub printed_of : List ℕ → ℕ → Option ℕ
+printed_of text room = cond (ltb room (length text)) None (Some (length text))
 
 -- the bytes afterwards: the text in front, what lies beyond as it was; all as it was where the text is longer
 unfoldable pub bytes_after : List ℕ → List ℕ → List ℕ
 bytes_after text bytes = let after = write bytes 0 text in cond (ltb (length bytes) (length text)) bytes after
-
--- words W as many as the table of an accepted request has, of so many cells
-pub record Tabled (R : Req) (W : List ℕ) (cell_count : ℕ) : Type 0 where
-  pub regular : Regular R
-  pub small : Small R
-  pub fits : Fits R
-  pub cells_is : cell_count ≡ cells R
-  pub words : length W ≡ label_count R * width R

@@ -8,29 +8,21 @@ ghost use Rattle.printout.specs.Printout.{printout_of};
 use std::io;
 use std::io::{Read, Write};
 
-// How many bytes the print of a sheet has, and what became of writing them.
+// How many bytes the print of a sheet has, whatever becomes of writing them; and what became of it.
 #[derive(Drop)]
 pub struct Printing {
     pub length: usize,
     pub written: io::Result<()>,
 }
 
-// Writes the front of the text.
-fn emit<W: Write>(out: &mut W, text: &[u8], n: usize) -> io::Result<()>
-    requires { n ≤ length text.now }
-    ensures { OnOk result (Appends (W.contents out.old) (W.contents out.new) (take n text.now)) }
-{
-    out.write_all(&text[0..n])
-}
-
-// Prints for a sheet, from bytes that suffice for every listing; how many were printed is the answer.
+// Prints for a sheet, from bytes that suffice for every listing.
 pub fn print<W: Write>(out: &mut W, sheet: &[u8]) -> Printing
     ensures length { result.length ≡ length (printout_of sheet.now) }
     ensures written { OnOk result.written (Appends (W.contents out.old) (W.contents out.new) (printout_of sheet.now)) }
 {
     let mut text = [0u8; 53000];
     let length = printout::print_out(sheet, &mut text);
-    let written = emit(out, &text, length);
+    let written = out.write_all(&text[..length]);
     Printing { length, written }
 }
 

@@ -1,52 +1,38 @@
 -- A text that is short enough is printed whole. Assumes nothing.
 use Prim.Native.Nat.{ℕ, ◌*◌, ◌≤◌, ◌<◌}
-use mathlib.Core.Path.{◌≡◌, refl, sym, ap, ◌∙◌}
+use mathlib.Core.Path.{◌≡◌, refl, sym, ap, ap₂, ◌∙◌}
 use mathlib.Core.List.{List, [], ◌∷◌, ◌++◌, append_assoc}
 use native.Mathlib.Omega.{arith}
 use lib.ListN.{length}
 use lib.Dec.{ltb, nltb→le}
+use Rattle.std.specs.Prelude.{Some, Result, Ok, Err}
 use Rattle.words.specs.Pieces.{write}
 use Rattle.words.specs.Rows.{Row, Weighed, clear, refused, weigh, settle}
 use Rattle.words.proofs.Rows.{weigh-front, weigh-clear-front, weigh-clear-back, clear-cons}
-use Rattle.text.specs.Line.{parted_width}
-use Rattle.text.proofs.Digits.{width_word}
-use Rattle.text.proofs.Puts.{line-width}
 use Rattle.request.specs.Request.{width}
 use Rattle.request.specs.Shape.{label_count}
 use Rattle.request.specs.Rows.{rows}
 use Rattle.request.specs.Accepted.{Accepted}
+use Rattle.request.specs.Refusal.{number_of, place_of, refusal_of, Named, answer}
 use Rattle.request.specs.declared.Refusal.{Refusal}
-use Rattle.sheet.specs.Grammar.{sheet_of, tab}
-use Rattle.sheet.specs.Reader.{words_of, request_of, form_rows}
-use Rattle.listing.specs.List.{asks, listing_of, request_rows, list_rows, answer, listed_of, listing_after}
-use Rattle.listing.specs.declared.Listed.TheVariants as listed
+use Rattle.request.specs.declared.Refusal.TheVariants.{Form, Bytes, Room}
+use Rattle.request.proofs.Named.{NamedRows, named-none, named-row, named-++, named-of, named-rows}
+use Rattle.sheet.specs.Grammar.{sheet_of}
+use Rattle.sheet.specs.Reader.{words_of, request_of, bad_line, form_rows}
+use Rattle.listing.specs.List.{asks, listing_of, request_rows, list_rows, listed_of, listing_after}
 use Rattle.listing.proofs.Suffices.{listing-few, bytes-suffice}
 use Rattle.printout.specs.Printout.{printout_rows, printed, printout_of}
-use Rattle.listing.specs.declared.Printed.TheVariants as print
-use Rattle.listing.specs.Listing.{refused_word, refusal_line}
+use Rattle.listing.specs.Listing.{refusal_line}
 use Rattle.listing.specs.Print.{printed_of, bytes_after}
 use Rattle.listing.proofs.Prints.{prints-text}
 
--- the line of a refusal takes at most 30 bytes
-pub line-short : (n p : ℕ) → n < 4294967296 → p < 4294967296 → length (refusal_line n p) ≤ 30
-unfolding refusal_line parted_width
-line-short n p hn hp = omega (arith, line-width tab refused_word (n ∷ p ∷ []), width_word n hn, width_word p hp)
+-- a text that has room is printed, so many bytes of it
+pub printed-bytes : (text bytes : List ℕ) → length text ≤ length bytes → printed_of text (length bytes) ≡ Some (length text)
+printed-bytes text bytes room = sym (prints-text text bytes room).answer
 
-module _ (text bytes : List ℕ) (room : length text ≤ length bytes) where
-  -- so many bytes were printed
-  pub printed-bytes : (n : ℕ) → print.Bytes n ≡ printed_of text (length bytes) → n ≡ length text
-  printed-bytes n e = let f : print.Bytes n ≡ print.Bytes (length text) = e ∙ sym (prints-text text bytes room).answer in cc
-
-  -- it was not too long
-  pub not-longer : print.Longer ≡ printed_of text (length bytes) → ⊥
-  not-longer e =
-      let f : print.Longer ≡ print.Bytes (length text) = e ∙ sym (prints-text text bytes room).answer in
-      let z : ◌≡◌ {A = ℕ} 0 1 = cc in
-      absurd (omega arith)
-
-  -- and it stands at the front
-  pub printed-text : bytes_after text bytes ≡ write bytes 0 text
-  printed-text = sym (prints-text text bytes room).left
+-- and stands at the front
+pub printed-text : (text bytes : List ℕ) → length text ≤ length bytes → bytes_after text bytes ≡ write bytes 0 text
+printed-text text bytes room = sym (prints-text text bytes room).left
 
 -- ---- the listing of a sheet, with 53,000 bytes and more
 
@@ -87,19 +73,30 @@ module _ (s : List ℕ) (room : ℕ) (enough : 53000 ≤ room) where
 
 -- ---- an answer of the C call, and what is printed for it
 
-by-listing : (w : Weighed) (text bytes : List ℕ) (n : ℕ) → listed.Bytes n ≡ answer w (length text)
+-- what a sheet is refused with is a refusal's number and place
+refusals-named : (s : List ℕ) → NamedRows (printout_rows s)
+unfolding printout_rows
+refusals-named s =
+    named-++ _ _ (named-row _ _ (λ _. named-of Bytes) (named-row _ _ (λ _. named-of (Form (bad_line (sheet_of s)))) named-none))
+    (named-++ _ _ (named-rows (asks s)) (named-row _ _ (λ _. named-of (Room 2)) named-none))
+
+by-listing : (w : Weighed) (text bytes : List ℕ) (n : ℕ) → ◌≡◌ {A = Result ℕ Refusal} (Ok n) (answer w (length text))
     → (n ≡ length (printed w text)) × (w ≡ clear) × (settle w (write bytes 0 text) bytes ≡ write bytes 0 (printed w text))
 by-listing clear text bytes n e = (cc, refl, refl)
 by-listing (refused m p) text bytes n e = let z : ◌≡◌ {A = ℕ} 0 1 = cc in absurd (omega arith)
 
-by-refusal : (w : Weighed) (text bytes : List ℕ) (r : Refusal) (k : ℕ) → listed.Refused r ≡ answer w k
-    → (refusal_line r.number r.place ≡ printed w text) × (settle w (write bytes 0 text) bytes ≡ bytes)
-by-refusal clear text bytes r k e = let z : ◌≡◌ {A = ℕ} 0 1 = cc in absurd (omega arith)
-by-refusal (refused m p) text bytes r k e = let f : r ≡ record { number = m; place = p } = cc in (ap (λ (x : Refusal). refusal_line x.number x.place) f, refl)
+by-refusal : (w : Weighed) (text bytes : List ℕ) (r : Refusal) (k : ℕ) → ((n p : ℕ) → w ≡ refused n p → Named n p) → ◌≡◌ {A = Result ℕ Refusal} (Err r) (answer w k)
+    → (refusal_line (number_of r) (place_of r) ≡ printed w text) × (settle w (write bytes 0 text) bytes ≡ bytes)
+unfolding Named
+by-refusal clear text bytes r k h e = let z : ◌≡◌ {A = ℕ} 0 1 = cc in absurd (omega arith)
+by-refusal (refused m p) text bytes r k h e =
+    let f : r ≡ refusal_of m p = cc in
+    let g = h m p refl in
+    (ap₂ refusal_line (ap number_of f ∙ g.0) (ap place_of f ∙ g.1), refl)
 
 module _ (s bytes : List ℕ) (enough : 53000 ≤ length bytes) where
   -- a listing is what is printed
-  pub prints-listing : (n : ℕ) → listed.Bytes n ≡ listed_of s (length bytes) → (n ≡ length (printout_of s)) × (n ≤ 53000) × (listing_after s bytes ≡ write bytes 0 (printout_of s))
+  pub prints-listing : (n : ℕ) → Ok n ≡ listed_of s (length bytes) → (n ≡ length (printout_of s)) × (n ≤ 53000) × (listing_after s bytes ≡ write bytes 0 (printout_of s))
   unfolding listed_of listing_after printout_of
   prints-listing n e =
       let same = same-weight s (length bytes) enough in
@@ -109,9 +106,9 @@ module _ (s bytes : List ℕ) (enough : 53000 ≤ length bytes) where
       (p.0, omega arith, ap (λ (w : Weighed). settle w (write bytes 0 (listing_of (asks s))) bytes) same ∙ p.2)
 
   -- a refusal has left the bytes, and its line is what is printed
-  pub prints-refusal : (r : Refusal) → listed.Refused r ≡ listed_of s (length bytes) → (refusal_line r.number r.place ≡ printout_of s) × (listing_after s bytes ≡ bytes)
-  unfolding listed_of listing_after printout_of
+  pub prints-refusal : (r : Refusal) → Err r ≡ listed_of s (length bytes) → (refusal_line (number_of r) (place_of r) ≡ printout_of s) × (listing_after s bytes ≡ bytes)
+  unfolding listed_of listing_after printout_of NamedRows
   prints-refusal r e =
       let same = same-weight s (length bytes) enough in
-      let p = by-refusal (weigh (printout_rows s)) (listing_of (asks s)) bytes r (length (listing_of (asks s))) (e ∙ ap (λ (w : Weighed). answer w (length (listing_of (asks s)))) same) in
+      let p = by-refusal (weigh (printout_rows s)) (listing_of (asks s)) bytes r (length (listing_of (asks s))) (refusals-named s) (e ∙ ap (λ (w : Weighed). answer w (length (listing_of (asks s)))) same) in
       (p.0, ap (λ (w : Weighed). settle w (write bytes 0 (listing_of (asks s))) bytes) same ∙ p.1)

@@ -6,7 +6,9 @@ use lib.ListN.{length, get_or}
 use contract.Lifetimes.{Lfts}
 use denote.Triple.Clauses.{Lasts, at_exit}
 use borrow.Fn.Kinds.{Dens, ended_of}
+use Rattle.std.proofs.Common.{Result, Ok}
 use Rattle.words.specs.Pieces.{write}
+use Rattle.request.specs.declared.Refusal.{Refusal}
 use Rattle.request.specs.Request.{asked}
 use Rattle.cover.specs.Walk.{Walk, sums}
 use Rattle.route.specs.Chain.{chain}
@@ -14,16 +16,14 @@ use Rattle.route.specs.Answer.{arcs_of}
 use Rattle.route.specs.declared.Back.{Back}
 use Rattle.route.specs.declared.Ending.TheVariants as ending
 use Rattle.table.specs.Build.{labels_after}
-use Rattle.table.specs.declared.Built.{Built}
-use Rattle.table.specs.declared.Built.TheVariants as built
 use Rattle.demands.specs.Demands.{Demand3}
 use Rattle.demands.proofs.Demands.{demand3, any-route}
 use Rattle.table.proofs.build
 use Rattle.route.proofs.read_back as back
 
 -- where the build answers t tries: the cover, the walks, the tries and the bounds, of the label buffer as it is left
-pub build-covers : (κs : Lfts 3) (a : Dens κs build.Kinds.ps) (x : Built) (v : Lasts (ended_of 3 build.Kinds.ps build.Kinds.r) κs a) (t : ℕ)
-    → build.Reads.Learnt κs a x (at_exit (ended_of 3 build.Kinds.ps build.Kinds.r) κs a v) → x ≡ built.Tries t
+pub build-covers : (κs : Lfts 3) (a : Dens κs build.Kinds.ps) (x : Result ℕ Refusal) (v : Lasts (ended_of 3 build.Kinds.ps build.Kinds.r) κs a) (t : ℕ)
+    → build.Reads.Learnt κs a x (at_exit (ended_of 3 build.Kinds.ps build.Kinds.r) κs a v) → x ≡ Ok t
     → (v.1.1.1.0 ≡ labels_after (asked a.0 a.1.0.now) (length a.1.1.0.now) a.1.1.1.0.now)
     × Demand3 a.0 a.1.0.now a.1.1.0.now a.1.1.1.0.now t
 build-covers κs a x v t p e = (p.1.1, demand3 a.0 a.1.0.now a.1.1.0.now a.1.1.1.0.now t (sym p.0 ∙ e))

@@ -1,7 +1,9 @@
 -- The entry points for a caller in Rattle: each promise leaves one answer, and one value of every word of lent memory. Assumes nothing.
 use mathlib.Core.Path.{refl}
+use lib.ListN.{length}
 use Rattle.promises.specs.Settled.{Settled}
 use Rattle.promises.proofs.Agree.{agree, passed, lent}
+use Rattle.sheet.specs.Reader.{read_request}
 use Rattle.sheet.proofs.Answers.{said-once}
 use Rattle.sheet.proofs.Writings.{writing-said-once}
 use Rattle.request.proofs.check
@@ -24,11 +26,10 @@ build-settled κs a x y v w ok p q = (agree p.0 q.0, passed (passed (lent (agree
 pub read-back-settled : Settled back.Kinds.ps back.Kinds.r back.Reads.Asked back.Reads.Learnt
 read-back-settled κs a x y v w ok p q = (λ i. record { ending = agree p.0 q.0 i; costs = agree p.1.0 q.1.0 i }, passed (passed (passed (passed (passed (passed (lent (agree p.1.1 q.1.1) refl)))))))
 
--- the outcome, the request beside it, and the arc words
+-- the answer, with the request that it holds, and the arc words
 pub read-settled : Settled read.Kinds.ps read.Kinds.r read.Reads.Asked read.Reads.Learnt
 read-settled κs a x y v w ok p q =
-    let same = said-once x.outcome y.outcome (agree p.0 q.0) in
-    (λ i. record { outcome = same i; request = agree p.1.0 q.1.0 i }, passed (lent (agree p.1.1 q.1.1) refl))
+    (said-once x y (read_request a.0.now (length a.1.0.now)) p.1.0 q.1.0 (agree p.0 q.0), passed (lent (agree p.1.1 q.1.1) refl))
 
 -- the sheet's bytes
 pub write-settled : Settled write.Kinds.ps write.Kinds.r write.Reads.Asked write.Reads.Learnt

@@ -1,4 +1,4 @@
--- Four promises of functions that only the planner itself calls leave more than one answer: what they settle. Assumes nothing.
+-- Five promises of functions that only the planner itself calls leave more than one answer: what they settle. Assumes nothing.
 use Prim.Native.Nat.{ℕ, ◌≤◌, ◌<◌}
 use mathlib.Core.Path.{◌≡◌, refl, sym, ◌∙◌, subst}
 use mathlib.Core.List.{List}
@@ -17,10 +17,15 @@ use Rattle.text.proofs.cut
 use Rattle.fences.proofs.seek
 use Rattle.labels.proofs.find_cell
 use Rattle.keeping.proofs.keep_layer
+use Rattle.route.proofs.store.Store.label
 
 -- `cut` returns a part of the line that was passed: its promise says which bytes, and not where they lie
 pub cut-settled : SettledAs cut.Kinds.ps cut.Kinds.r (λ κs. List ℕ) (λ κs x. x.now) cut.Reads.Asked cut.Reads.Learnt
 cut-settled κs a x y v w ok p q = (agree p q, refl)
+
+-- so does a store's `label`, a part of the label words that it was given
+pub store-label-settled : SettledAs label.Kinds.ps label.Kinds.r (λ κs. List ℕ) (λ κs x. x.now) label.Reads.Asked label.Reads.Learnt
+store-label-settled κs a x y v w ok p q = (agree p q, refl)
 
 -- among the words of a ladder a cost has one place
 one_place : (p q top : ℕ) → 0 < q → (l : List ℕ) (c x y : ℕ) → l ≡ ladder p q top → Slot l c x → Slot l c y → x ≡ y

@@ -11,19 +11,21 @@ use Rattle.words.specs.Rows.{Row, Weighed, clear, refused, weigh}
 use Rattle.words.proofs.Rows.{weigh-append, weigh-front, weigh-clear-front, weigh-clear-back}
 use Rattle.request.specs.Request.{Req, asked}
 use Rattle.request.specs.Rows.{rows}
+use Rattle.request.specs.Refusal.{number_of, place_of, refusal_of, answer}
 use Rattle.request.specs.Shape.{count, cells, label_count}
 use Rattle.request.specs.Accepted.{Accepted, Loopless}
 use Rattle.request.proofs.Accepted.{accepted-loopless, first-loop}
 use Rattle.sheet.specs.Reader.{form_rows}
 use Rattle.rounds.specs.Rounds.{tries}
 use Rattle.table.specs.Build as table
+use Rattle.table.specs.Build.{built_said}
 use Rattle.route.specs.Chain.{chain}
 use Rattle.route.specs.Answer as route
 use Rattle.route.specs.declared.Ending.TheVariants as ending
 use Rattle.route.proofs.Promises.{empty-accepted}
 use Rattle.listing.specs.List as listing
 use Rattle.desk.specs.Packed.{answer_of}
-use Rattle.desk.specs.Calls.{request_from, built_said, ending_said}
+use Rattle.desk.specs.Calls.{request_from, ending_said}
 use Rattle.desk.proofs.Told.{build-told, back-told, list-told}
 use Rattle.promises.specs.Settled.{Promised}
 use Rattle.promises.specs.Says.{says, says_or_empty, checked_said}
@@ -59,12 +61,12 @@ says-or-empty-tells vs = record { seventeen = λ a. refl; no-count = λ n p v us
     go n p v us false e = two-words n p v us e
 
 ending-tells : (k : ℕ) → Tells (λ w. ending_said (route.ended w k))
-unfolding route.refusal
+unfolding route.refusal refusal_of
 ending-tells k = record { seventeen = λ a. refl; no-count = λ n p v us. go n p v us (eqb n 15) }
   where
-    go : (n p v : ℕ) (us : List ℕ) (b : Bool) → ending_said (cond b ending.Empty (ending.Refused (record { number = n; place = p }))) ≡ 0 ∷ 0 ∷ v ∷ us → ⊥
+    go : (n p v : ℕ) (us : List ℕ) (b : Bool) → ending_said (cond b ending.Empty (ending.Refused (refusal_of n p))) ≡ 0 ∷ 0 ∷ v ∷ us → ⊥
     go n p v us true e = two-words 15 0 v us e
-    go n p v us false e = two-words n p v us e
+    go n p v us false e = two-words (number_of (refusal_of n p)) (place_of (refusal_of n p)) v us e
 
 -- the request's own rows were weighed, after those before them and before those behind them
 module _ (f : Weighed → List ℕ) (tells : Tells f) (before behind : List Row) (R : Req) where
@@ -120,12 +122,12 @@ list-refuses-loops κs a x e p =
 
 pub gowkaroo-build-refuses-loops : Promised gowkaroo_build.Kinds.ps gowkaroo_build.Kinds.r gowkaroo_build.Reads.Learnt
     (λ κs a x. RefusesLoops [] (asked (request_from a.0.now) a.1.0.now) (answer_of x))
-unfolding table.built_of table.build_rows
+unfolding table.built_of table.build_rows refusal_of
 gowkaroo-build-refuses-loops κs a x e p =
     let q = request_from a.0.now in
     let R = asked q a.1.0.now in
     let n = tries R q.hops in
-    loops-refused (λ w. built_said (table.answer w n)) (record { seventeen = λ b. refl; no-count = two-words }) [] _ R (answer_of x)
+    loops-refused (λ w. built_said (answer w n)) (record { seventeen = λ b. refl; no-count = λ m p. two-words (number_of (refusal_of m p)) (place_of (refusal_of m p)) }) [] _ R (answer_of x)
     (ap answer_of p.0 ∙ build-told q a.1.0.now (length a.1.1.0.now) (length a.1.1.1.0.now))
 
 pub gowkaroo-read-back-refuses-loops : Promised gowkaroo_read_back.Kinds.ps gowkaroo_read_back.Kinds.r gowkaroo_read_back.Reads.Learnt
@@ -145,9 +147,9 @@ gowkaroo-read-back-refuses-loops κs a x e p =
 -- of a sheet in form
 pub gowkaroo-list-refuses-loops : Promised gowkaroo_list.Kinds.ps gowkaroo_list.Kinds.r gowkaroo_list.Reads.Learnt
     (λ κs a x. RefusesLoops (form_rows a.0.now) (listing.asks a.0.now) (answer_of x))
-unfolding listing.listed_of listing.list_rows listing.request_rows
+unfolding listing.listed_of listing.list_rows listing.request_rows refusal_of
 gowkaroo-list-refuses-loops κs a x e p =
     let s = a.0.now in
     let n = length (listing.listing_of (listing.asks s)) in
-    loops-refused (λ w. listing.said (listing.answer w n)) (record { seventeen = λ b. refl; no-count = two-words }) (form_rows s) _ (listing.asks s) (answer_of x)
+    loops-refused (λ w. listing.said (answer w n)) (record { seventeen = λ b. refl; no-count = λ m p. two-words (number_of (refusal_of m p)) (place_of (refusal_of m p)) }) (form_rows s) _ (listing.asks s) (answer_of x)
     (ap answer_of p.0 ∙ list-told s (length a.1.0.now))

@@ -5,7 +5,9 @@ use mathlib.Core.List.{List, [], ◌∷◌}
 use native.Mathlib.Omega.{arith}
 use lib.ListN.{length}
 use Rattle.words.specs.Rows.{Weighed, clear, refused, weigh, settle}
+use Rattle.std.proofs.Common.{Err}
 use Rattle.request.specs.declared.Refusal.{Refusal}
+use Rattle.request.specs.Refusal.{number_of, place_of, answer}
 use Rattle.words.specs.Pieces.{write}
 use Rattle.request.specs.Request.{asked}
 use Rattle.request.specs.Shape.{ladders}
@@ -14,17 +16,14 @@ use Rattle.sheet.specs.Answer.{told}
 use Rattle.sheet.specs.Grammar.{sheet_of}
 use Rattle.sheet.specs.Reader as reader
 use Rattle.sheet.specs.Writer as writer
-use Rattle.sheet.specs.declared.Outcome.TheVariants as outcome
-use Rattle.sheet.specs.declared.Writing.TheVariants as writing
 use Rattle.table.specs.Build as build-of
-use Rattle.table.specs.declared.Built.TheVariants as built
+use Rattle.table.specs.Build.{built_said}
 use Rattle.route.specs.Chain.{chain}
 use Rattle.route.specs.Answer as route
 use Rattle.route.specs.declared.Ending.TheVariants as ending
 use Rattle.listing.specs.List as listing
-use Rattle.listing.specs.declared.Listed.TheVariants as listed
 use Rattle.desk.specs.Packed.{Parts, unpack, packed, Answer}
-use Rattle.desk.specs.Calls.{request_from, request_words, request_after, built_said, ending_said, costs_lent}
+use Rattle.desk.specs.Calls.{request_from, request_words, request_after, ending_said, costs_lent}
 use Rattle.desk.proofs.Packing.{unpack-pack, count_small, packed-count}
 use Rattle.desk.proofs.Answers.{read_answer, write-answer}
 use Rattle.desk.proofs.Builds.{built-answer}
@@ -52,13 +51,9 @@ came (refused n p) x y h = refl
 
 -- ---- and it is not clear where a refusal is answered: of each table
 
-build-refuses : (w : Weighed) (n : ℕ) (f : Refusal) → build-of.answer w n ≡ built.Refused f → w ≡ clear → ⊥
-build-refuses clear n f e q = let z : ◌≡◌ {A = ℕ} 0 1 = cc in absurd (omega arith)
-build-refuses (refused m p) n f e q = let z : ◌≡◌ {A = ℕ} 0 1 = cc in absurd (omega arith)
-
-list-refuses : (w : Weighed) (n : ℕ) (f : Refusal) → listing.answer w n ≡ listed.Refused f → w ≡ clear → ⊥
-list-refuses clear n f e q = let z : ◌≡◌ {A = ℕ} 0 1 = cc in absurd (omega arith)
-list-refuses (refused m p) n f e q = let z : ◌≡◌ {A = ℕ} 0 1 = cc in absurd (omega arith)
+answer-refuses : {A : Type 0} (w : Weighed) (x : A) (f : Refusal) → answer w x ≡ Err f → w ≡ clear → ⊥
+answer-refuses clear x f e q = let z : ◌≡◌ {A = ℕ} 0 1 = cc in absurd (omega arith)
+answer-refuses (refused m p) x f e q = let z : ◌≡◌ {A = ℕ} 0 1 = cc in absurd (omega arith)
 
 told-refuses : (w : Weighed) (n k p : ℕ) → k ∷ p ∷ [] ≡ told w n → w ≡ clear → ⊥
 told-refuses w n k p e q = let z : ◌≡◌ {A = ℕ} 2 3 = ap length (e ∙ ap (λ (u : Weighed). told u n) q) in absurd (omega arith)
@@ -69,29 +64,29 @@ back-refuses w n h q = h n (ap (λ (u : Weighed). route.ended u n) q)
 -- ---- the entry points
 
 -- both buffers of the build
-pub build-leaves : Leaves build.Kinds.ps build.Kinds.r (λ κs a. (tt, (tt, (a.1.1.0.now, (a.1.1.1.0.now, tt))))) (λ κs x. (f : Refusal) × (x ≡ built.Refused f)) build.Reads.Learnt
+pub build-leaves : Leaves build.Kinds.ps build.Kinds.r (λ κs a. (tt, (tt, (a.1.1.0.now, (a.1.1.1.0.now, tt))))) (λ κs x. (f : Refusal) × (x ≡ Err f)) build.Reads.Learnt
 unfolding build-of.built_of build-of.ladders_after build-of.labels_after
 build-leaves κs a x v p f =
     let R = asked a.0 a.1.0.now in
     let w = weigh (build-of.build_rows R (length a.1.1.0.now) (length a.1.1.1.0.now)) in
-    let h : w ≡ clear → ⊥ = build-refuses w (tries R a.0.hops) f.0 (sym p.0 ∙ f.1) in
+    let h : w ≡ clear → ⊥ = answer-refuses w (tries R a.0.hops) f.0 (sym p.0 ∙ f.1) in
     passed (passed (lent (p.1.0 ∙ came w (write a.1.1.0.now 0 (ladders R)) a.1.1.0.now h) (lent (p.1.1 ∙ came w (write a.1.1.1.0.now 0 (table R)) a.1.1.1.0.now h) refl)))
 
 -- the reader's arc words
-pub read-leaves : Leaves read.Kinds.ps read.Kinds.r (λ κs a. (tt, (a.1.0.now, tt))) (λ κs x. (f : Refusal) × (x.outcome ≡ outcome.Refused f)) read.Reads.Learnt
+pub read-leaves : Leaves read.Kinds.ps read.Kinds.r (λ κs a. (tt, (a.1.0.now, tt))) (λ κs x. (f : Refusal) × (x ≡ Err f)) read.Reads.Learnt
 unfolding reader.read_says reader.arcs_after
 read-leaves κs a x v p f =
     let s = a.0.now in
     let w = weigh (reader.reader_rows s (length a.1.0.now)) in
-    let h : w ≡ clear → ⊥ = told-refuses w (length (reader.words_of (sheet_of s))) f.0.number f.0.place (sym (ap reader.said f.1) ∙ p.0) in
+    let h : w ≡ clear → ⊥ = told-refuses w (length (reader.words_of (sheet_of s))) (number_of f.0) (place_of f.0) (sym (ap reader.said f.1) ∙ p.0) in
     passed (lent (p.1.1 ∙ came w (write a.1.0.now 0 (reader.words_of (sheet_of s))) a.1.0.now h) refl)
 
 -- the writer's bytes
-pub write-leaves : Leaves writes.Kinds.ps writes.Kinds.r (λ κs a. (tt, (tt, (a.1.1.0.now, tt)))) (λ κs x. (f : Refusal) × (x ≡ writing.Refused f)) writes.Reads.Learnt
+pub write-leaves : Leaves writes.Kinds.ps writes.Kinds.r (λ κs a. (tt, (tt, (a.1.1.0.now, tt)))) (λ κs x. (f : Refusal) × (x ≡ Err f)) writes.Reads.Learnt
 unfolding writer.write_says writer.sheet_after
 write-leaves κs a x v p f =
     let w = weigh (writer.writer_rows a.0 a.1.0.now (length a.1.1.0.now)) in
-    let h : w ≡ clear → ⊥ = told-refuses w (length (writer.written a.0 a.1.0.now)) f.0.number f.0.place (sym (ap writer.writing_said f.1) ∙ p.0) in
+    let h : w ≡ clear → ⊥ = told-refuses w (length (writer.written a.0 a.1.0.now)) (number_of f.0) (place_of f.0) (sym (ap writer.writing_said f.1) ∙ p.0) in
     passed (passed (lent (p.1 ∙ came w (write a.1.1.0.now 0 (writer.written a.0 a.1.0.now)) a.1.1.0.now h) refl))
 
 -- the read-back's route buffer, where the ending is no route
@@ -107,13 +102,13 @@ read-back-leaves κs a x v p f =
     passed (passed (passed (passed (passed (passed (lent (p.1.1 ∙ came w (write b 0 ws) b h) refl))))))
 
 -- the listing's bytes
-pub list-leaves : Leaves list.Kinds.ps list.Kinds.r (λ κs a. (tt, (a.1.0.now, tt))) (λ κs x. (f : Refusal) × (x ≡ listed.Refused f)) list.Reads.Learnt
+pub list-leaves : Leaves list.Kinds.ps list.Kinds.r (λ κs a. (tt, (a.1.0.now, tt))) (λ κs x. (f : Refusal) × (x ≡ Err f)) list.Reads.Learnt
 unfolding listing.listed_of listing.listing_after
 list-leaves κs a x v p f =
     let s = a.0.now in
     let text = listing.listing_of (listing.asks s) in
     let w = weigh (listing.list_rows s (length a.1.0.now)) in
-    let h : w ≡ clear → ⊥ = list-refuses w (length text) f.0 (sym p.0 ∙ f.1) in
+    let h : w ≡ clear → ⊥ = answer-refuses w (length text) f.0 (sym p.0 ∙ f.1) in
     passed (lent (p.1 ∙ came w (write a.1.0.now 0 text) a.1.0.now h) refl)
 
 -- ---- the calls for C
@@ -156,7 +151,7 @@ gowkaroo-build-leaves κs a x v p f =
     let R = asked q a.1.0.now in
     let n = tries R q.hops in
     let w = weigh (build-of.build_rows R (length a.1.1.0.now) (length a.1.1.1.0.now)) in
-    let h : w ≡ clear → ⊥ = λ e. no-count x (built_said (build-of.answer w n)) (built-answer q a.1.0.now (length a.1.1.0.now) (length a.1.1.1.0.now)) p.0 f n (ap (λ (u : Weighed). built_said (build-of.answer u n)) e) in
+    let h : w ≡ clear → ⊥ = λ e. no-count x (built_said (answer w n)) (built-answer q a.1.0.now (length a.1.1.0.now) (length a.1.1.1.0.now)) p.0 f n (ap (λ (u : Weighed). built_said (answer u n)) e) in
     passed (passed (lent (p.1.0 ∙ came w (write a.1.1.0.now 0 (ladders R)) a.1.1.0.now h) (lent (p.1.1 ∙ came w (write a.1.1.1.0.now 0 (table R)) a.1.1.1.0.now h) refl)))
 
 -- the three words of costs and the route
@@ -183,5 +178,5 @@ gowkaroo-list-leaves κs a x v p f =
     let s = a.0.now in
     let text = listing.listing_of (listing.asks s) in
     let w = weigh (listing.list_rows s (length a.1.0.now)) in
-    let h : w ≡ clear → ⊥ = λ q. no-count x (listing.said (listing.answer w (length text))) (list-answer s (length a.1.0.now)) p.0 f (length text) (ap (λ (u : Weighed). listing.said (listing.answer u (length text))) q) in
+    let h : w ≡ clear → ⊥ = λ q. no-count x (listing.said (answer w (length text))) (list-answer s (length a.1.0.now)) p.0 f (length text) (ap (λ (u : Weighed). listing.said (answer u (length text))) q) in
     passed (lent (p.1 ∙ came w (write a.1.0.now 0 text) a.1.0.now h) refl)

@@ -7,18 +7,19 @@ use lib.ListN.{length, get_or, replicate}
 use contract.Lifetimes.{Lfts}
 use denote.Ref.{Bor}
 use denote.MutBor.{MutBor}
+use Rattle.std.proofs.Common.{Result, Ok, Err}
 use Rattle.words.specs.Loops.{up_to, total, any}
 use Rattle.words.specs.Pieces.{part, write, at, put, join}
 use Rattle.words.specs.Radix.{volume, radix}
 use Rattle.words.specs.Rows.{weigh, each}
 use Rattle.fences.specs.Fence as fence
+use Rattle.request.specs.declared.Refusal.{Refusal}
 use Rattle.request.specs.Request.{Req, asked, lower, ratio_p, ratio_q, arc_count, arc, tail, head, arc_costs, reach}
 use Rattle.request.specs.Shape.{largest_of, largest, top, buckets, ladder, ladders, position, cells, cell, label_count}
 use Rattle.request.specs.Rows.{outside, size_rows, ratio_row, arc_words_row, arc_fault, arc_row, bucket_row, label_row, ask_rows, arc_rows, shape_rows, rows}
 use Rattle.rounds.specs.Label.{costs, step, from, filled, empty, start, kept, sum, candidate, came, wins}
 use Rattle.rounds.specs.Rounds.{block, blank, start_block, start_layer, keep_cell, keep_block, keep_all, offer, try_cell, try_arc, arc_step, round, layer, table, filled_in, round_tries, tries}
 use Rattle.table.specs.Build.{build_rows, built_of, ladders_after, labels_after}
-use Rattle.table.specs.declared.Built.TheVariants as built
 use Rattle.promises.specs.StandIns.{example, tracks, Call, ladders_left, labels_left, ShutOut}
 
 -- ---- what the promise says of a call on the example
@@ -48,7 +49,7 @@ module _ (k : ℕ) (c : Call k) where
 -- ---- what that is, by computation: the answer, a fence, and the step of layer 2, node 3, cell 3 (word 190) with 2 hops, with none, and where layer 1 is only kept
 
 computed :
-    (built_of (asked (example 2) tracks) 5 192 ≡ built.Tries 8)
+    (built_of (asked (example 2) tracks) 5 192 ≡ Ok 8)
     × (get_or (ladders_after (asked (example 2) tracks) (replicate 5 0) 192) 1 0 ≡ 1)
     × (get_or (labels_after (asked (example 2) tracks) 5 (replicate 192 0)) 190 0 ≡ 6)
     × (get_or (labels_after (asked (example 0) tracks) 5 (replicate 192 0)) 190 0 ≡ 0)
@@ -79,7 +80,7 @@ called k κs =
 
 pub shut_out : ShutOut
 shut_out = record {
-  refusing = λ c r e. let z : built.Refused r ≡ built.Tries 8 = sym e ∙ answer-is 2 c ∙ computed.0 in let n : ◌≡◌ {A = ℕ} 0 1 = cc in absurd (omega arith);
+  refusing = λ c r e. let z : ◌≡◌ {A = Result ℕ Refusal} (Err r) (Ok 8) = sym e ∙ answer-is 2 c ∙ computed.0 in let n : ◌≡◌ {A = ℕ} 0 1 = cc in absurd (omega arith);
   same_table = λ c d e.
       let n : ◌≡◌ {A = ℕ} 6 0 = sym computed.2 ∙ ap seen (sym (labels-are 2 c) ∙ e ∙ labels-are 0 d) ∙ computed.3 in
       absurd (omega arith);
@@ -94,7 +95,7 @@ shut_out = record {
       ∙ ap (λ (xs : List ℕ). get_or xs 62 0) (ap (λ (xs : List ℕ). part xs 128 64) (sym after) ∙ e ∙ ap (λ (xs : List ℕ). keep_all (asked (example 2) tracks) (part xs 64 64)) after)
       ∙ computed.4 in
       absurd (omega arith);
-  made_up = λ c t e. let z : built.Tries t ≡ built.Tries 8 = sym e ∙ answer-is 2 c ∙ computed.0 in cc;
+  made_up = λ c t e. let z : ◌≡◌ {A = Result ℕ Refusal} (Ok t) (Ok 8) = sym e ∙ answer-is 2 c ∙ computed.0 in cc;
 }
   where
     seen : List ℕ → ℕ

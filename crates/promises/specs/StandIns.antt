@@ -1,5 +1,5 @@
 -- Document 01, "What the promises have to say" (c): "These stand-ins are shut out", each by one call of `build` on the document's printed example. Assumes nothing.
-use Rattle.std.specs.Prelude.{ℕ, ◌≡◌, List, [], ◌∷◌, replicate}
+use Rattle.std.specs.Prelude.{ℕ, ◌≡◌, List, [], ◌∷◌, replicate, Result, Ok, Err}
 use contract.Lifetimes.{Lfts}
 use denote.Triple.Clauses.{Lasts, at_exit}
 use borrow.Fn.Kinds.{Dens, ended_of}
@@ -8,8 +8,6 @@ use Rattle.request.specs.declared.Request.{Request}
 use Rattle.request.specs.declared.Refusal.{Refusal}
 use Rattle.request.specs.Request.{asked}
 use Rattle.rounds.specs.Rounds.{keep_all}
-use Rattle.table.specs.declared.Built.{Built}
-use Rattle.table.specs.declared.Built.TheVariants as built
 use Rattle.table.proofs.build
 
 -- the printed example with k hops
@@ -28,7 +26,7 @@ pub record Call (k : ℕ) : Type 0 where
   pub arcs : args.1.0.now ≡ tracks
   pub ladders : args.1.1.0.now ≡ replicate 5 0
   pub labels : args.1.1.1.0.now ≡ replicate 192 0
-  pub answer : Built
+  pub answer : Result ℕ Refusal
   pub left : Lasts (ended_of 3 build.Kinds.ps build.Kinds.r) lifetimes args
   pub allowed : build.Reads.Learnt lifetimes args answer (at_exit (ended_of 3 build.Kinds.ps build.Kinds.r) lifetimes args left)
 
@@ -43,7 +41,7 @@ labels_left c = c.left.1.1.1.0
 -- no answer that the promise allows is a stand-in's
 pub record ShutOut : Type 0 where
   -- "refusing every request (demand 1, refusals only when listed)"
-  pub refusing : (c : Call 2) (r : Refusal) → c.answer ≡ built.Refused r → ⊥
+  pub refusing : (c : Call 2) (r : Refusal) → c.answer ≡ Err r → ⊥
   -- "the same table always (demand 2)": with 2 hops and with none
   pub same_table : (c : Call 2) (e : Call 0) → labels_left c ≡ labels_left e → ⊥
   -- "writing nothing (demands 2 and 3)"
@@ -52,4 +50,4 @@ pub record ShutOut : Type 0 where
   -- "running round 1 and only keeping afterwards (demand 3, for walks of two arcs)": a layer has 64 words
   pub only_keeping : (c : Call 2) → part (labels_left c) 128 64 ≡ keep_all (asked (example 2) tracks) (part (labels_left c) 64 64) → ⊥
   -- "a tries figure made up (demand 3, equal to the rounds' own count)"
-  pub made_up : (c : Call 2) (t : ℕ) → c.answer ≡ built.Tries t → t ≡ 8
+  pub made_up : (c : Call 2) (t : ℕ) → c.answer ≡ Ok t → t ≡ 8

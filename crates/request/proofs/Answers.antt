@@ -8,32 +8,34 @@ use Rattle.request.specs.Request.{Req}
 use Rattle.request.specs.Shape.{cells, label_count}
 use Rattle.request.specs.Rows.{rows}
 use Rattle.request.specs.Accepted.{Accepted, Regular, Fits}
-use Rattle.request.specs.Answer.{shape_of, answer, checked_of}
+use Rattle.request.specs.Answer.{shape_of, checked_of}
+use Rattle.request.specs.Refusal.{number_of, place_of, refusal_of, answer}
 use Rattle.request.specs.declared.Refusal.{Refusal}
 use Rattle.request.specs.declared.Shape.{Shape}
-use Rattle.request.specs.declared.Checked.TheVariants as checked
+use Rattle.request.proofs.Named.{named-says, rows-named}
+use Rattle.std.proofs.Common.{Result, Ok, Err}
 
 -- a refusal is the first row's that holds
-pub refused-is : (R : Req) (r : Refusal) → checked.Refused r ≡ checked_of R → weigh (rows R) ≡ refused r.number r.place
+pub refused-is : (R : Req) (r : Refusal) → Err r ≡ checked_of R → weigh (rows R) ≡ refused (number_of r) (place_of r)
 unfolding checked_of
 refused-is R r e = go (weigh (rows R)) refl
   where
-    go : (w : Weighed) → weigh (rows R) ≡ w → weigh (rows R) ≡ refused r.number r.place
-    go clear q = let a : checked.Refused r ≡ checked.Shaped (shape_of R) = e ∙ ap (λ (z : Weighed). answer z (shape_of R)) q in let z : ◌≡◌ {A = ℕ} 0 1 = cc in absurd (omega arith)
+    go : (w : Weighed) → weigh (rows R) ≡ w → weigh (rows R) ≡ refused (number_of r) (place_of r)
+    go clear q = let a : ◌≡◌ {A = Result Shape Refusal} (Err r) (Ok (shape_of R)) = e ∙ ap (λ (z : Weighed). answer z (shape_of R)) q in let z : ◌≡◌ {A = ℕ} 0 1 = cc in absurd (omega arith)
     go (refused n p) q =
-        let a : checked.Refused r ≡ checked.Refused (record { number = n; place = p }) = e ∙ ap (λ (z : Weighed). answer z (shape_of R)) q in
-        let b : r ≡ record { number = n; place = p } = cc in
-        q ∙ sym (ap (λ (x : Refusal). refused x.number x.place) b)
+        let a : ◌≡◌ {A = Result Shape Refusal} (Err r) (Err (refusal_of n p)) = e ∙ ap (λ (z : Weighed). answer z (shape_of R)) q in
+        let b : r ≡ refusal_of n p = cc in
+        q ∙ sym (named-says n p (rows-named R n p q)) ∙ sym (ap (λ (x : Refusal). refused (number_of x) (place_of x)) b)
 
 -- a shape is the request's, which is accepted
-pub shaped-is : (R : Req) (s : Shape) → checked.Shaped s ≡ checked_of R → Accepted R × (s ≡ shape_of R)
+pub shaped-is : (R : Req) (s : Shape) → Ok s ≡ checked_of R → Accepted R × (s ≡ shape_of R)
 unfolding checked_of Accepted
 shaped-is R s e = go (weigh (rows R)) refl
   where
     go : (w : Weighed) → weigh (rows R) ≡ w → (weigh (rows R) ≡ clear) × (s ≡ shape_of R)
-    go clear q = let a : checked.Shaped s ≡ checked.Shaped (shape_of R) = e ∙ ap (λ (z : Weighed). answer z (shape_of R)) q in (q, (cc))
+    go clear q = let a : ◌≡◌ {A = Result Shape Refusal} (Ok s) (Ok (shape_of R)) = e ∙ ap (λ (z : Weighed). answer z (shape_of R)) q in (q, (cc))
     go (refused n p) q =
-        let a : checked.Shaped s ≡ checked.Refused (record { number = n; place = p }) = e ∙ ap (λ (z : Weighed). answer z (shape_of R)) q in
+        let a : ◌≡◌ {A = Result Shape Refusal} (Ok s) (Err (refusal_of n p)) = e ∙ ap (λ (z : Weighed). answer z (shape_of R)) q in
         let z : ◌≡◌ {A = ℕ} 0 1 = cc in absurd (omega arith)
 
 -- C is at most the number of labels

@@ -1,6 +1,6 @@
 -- The rows that each weighing function goes through, decided from its branches. Assumes nothing.
 use Prim.Native.Nat.{ℕ, ◌+◌, ◌*◌, ◌/◌, ◌%◌, ◌≤◌, ◌<◌}
-use mathlib.Core.Path.{◌≡◌, sym, ap, ◌∙◌}
+use mathlib.Core.Path.{◌≡◌, sym, ap, ◌∙◌, subst}
 use mathlib.Core.Bool.{Bool, cond, not, ◌||◌}
 use mathlib.Core.List.{List, [], ◌∷◌}
 use lib.ListN.{get_or}
@@ -8,10 +8,10 @@ use lib.Dec.{T, leb, ltb, eqb}
 use borrow.Author.Tests.{eq-eqb, ne_eqb}
 use Rattle.words.specs.Loops.{any}
 use Rattle.words.specs.Pieces.{at}
-use Rattle.words.specs.Rows.{clear, refused, weigh, each}
+use Rattle.words.specs.Rows.{Row, clear, refused, weigh, each}
 use Rattle.words.proofs.Choices.{cond_cases, cond-true, cond-false, or_left, or_right, or-neither}
-use Rattle.words.proofs.Rows.{weigh-none, weigh-held, weigh-passed, each-refused}
-use Rattle.request.specs.Rows.{outside, size_rows, ratio_row, arc_words_row, arc_fault, arc_row}
+use Rattle.words.proofs.Rows.{either, refused-not-clear, weigh-none, weigh-held, weigh-passed, clear-cons, each-refused}
+use Rattle.request.specs.Rows.{outside, size_rows, ratio_row, arc_words_row, arc_fault, fault_row, arc_row}
 use Rattle.request.proofs.Tests.{lt-holds, lt-fails, le-holds, le-fails}
 
 -- ---- rows 2 to 5
@@ -129,6 +129,13 @@ module _ (n d : ℕ) (w : List ℕ) where
       pub fault-none : T (not (any (λ j. ltb 1000000 (get_or w (j + 2) 0)) d)) → arc_fault n d w ≡ 0
       fault-none t = past ∙ cond-false over 8 0 t
 
+-- an arc's row alone
+pub fault-refused : (n d a f : ℕ) (w : List ℕ) → arc_fault n d w ≡ f → 0 < f → weigh (fault_row (arc_fault n d w) a ∷ []) ≡ refused f a
+fault-refused n d a f w e h = ap (λ (z : ℕ). weigh (fault_row z a ∷ [])) e ∙ weigh-held (fault_row f a) [] (lt-holds h)
+
+pub fault-clear : (n d a : ℕ) (w : List ℕ) → arc_fault n d w ≡ 0 → weigh (fault_row (arc_fault n d w) a ∷ []) ≡ clear
+fault-clear n d a w e = ap (λ (z : ℕ). weigh (fault_row z a ∷ [])) e ∙ weigh-passed (fault_row 0 a) [] tt ∙ weigh-none
+
 module _ (n d : ℕ) (arcs : List ℕ) (a : ℕ) where
   pub arc-good : arc_fault n d (at (d + 2) arcs a) ≤ 0 → T (not (arc_row n d arcs a).holds)
   unfolding arc_row
@@ -139,3 +146,28 @@ module _ (n d : ℕ) (arcs : List ℕ) (a : ℕ) where
   unfolding arc_row
   arcs-refused m f l e pos h =
       each-refused (arc_row n d arcs) m a l (lt-holds (rw e at pos)) h ∙ ap (λ (z : ℕ). refused z a) (sym e)
+
+-- a row that alone is clear does not hold, and one that alone refuses does
+pub row-passed : (r : Row) → weigh (r ∷ []) ≡ clear → T (not r.holds)
+row-passed r e = (clear-cons r [] e).0
+
+pub row-held : (r : Row) (f p : ℕ) → weigh (r ∷ []) ≡ refused f p → T r.holds × (refused r.number r.place ≡ refused f p)
+row-held r f p e =
+    either (T r.holds × (refused r.number r.place ≡ refused f p)) r.holds
+    (λ t. (t, sym (weigh-held r [] t) ∙ e))
+    (λ t. absurd (refused-not-clear f p (sym e ∙ weigh-passed r [] t ∙ weigh-none)))
+
+-- the arc's words are w: its row alone, in its place among the arcs
+module _ (n d : ℕ) (arcs : List ℕ) (a : ℕ) (w : List ℕ) (is : w ≡ at (d + 2) arcs a) where
+  same-row : fault_row (arc_fault n d w) a ≡ arc_row n d arcs a
+  unfolding arc_row
+  same-row = ap (λ (v : List ℕ). fault_row (arc_fault n d v) a) is
+
+  pub arc-passed : weigh (fault_row (arc_fault n d w) a ∷ []) ≡ clear → T (not (arc_row n d arcs a).holds)
+  arc-passed e = subst (λ (r : Row). T (not r.holds)) same-row (row-passed _ e)
+
+  pub arc-stops : (m f p : ℕ) → a < m → ((i : ℕ) → i < a → T (not (arc_row n d arcs i).holds)) → weigh (fault_row (arc_fault n d w) a ∷ []) ≡ refused f p
+      → weigh (each (arc_row n d arcs) m) ≡ refused f p
+  arc-stops m f p l h e =
+      let held = row-held (arc_row n d arcs a) f p (ap (λ (r : Row). weigh (r ∷ [])) (sym same-row) ∙ e) in
+      each-refused (arc_row n d arcs) m a l held.0 h ∙ held.1

@@ -15,21 +15,20 @@ use Rattle.words.specs.Radix.{volume}
 use Rattle.words.specs.Rows.{Weighed, clear, refused, weigh, each}
 use Rattle.words.proofs.Loops.{below_next}
 use Rattle.words.proofs.Radix.{volume-zero, volume-next}
-use Rattle.words.proofs.Rows.{each-clear, each-refused, clear-each, weigh-append, weigh-held, weigh-passed, weigh-none}
+use Rattle.words.proofs.Rows.{each-clear, each-refused, clear-each, weigh-append, weigh-held, weigh-passed, weigh-none, weigh-front}
 use Rattle.words.proofs.Writes.{spelled-all}
 use Rattle.fences.specs.Answer.{buckets_of}
-use Rattle.fences.specs.declared.Buckets.TheVariants.{Count, Over}
+use Rattle.std.proofs.Common.{Some, None, Ok, Err}
 use Rattle.fences.proofs.Answers.{count-is, over-is}
 use Rattle.request.specs.Request.{Req, ratio_p, ratio_q}
 use Rattle.request.specs.Shape.{top, buckets, cells, label_count, count}
 use Rattle.request.specs.Rows.{ask_rows, arc_rows, bucket_row, label_row, shape_rows, rows}
-use Rattle.request.specs.Answer.{said, shape_of, shaped_of, answer, checked_of}
+use Rattle.request.specs.Answer.{shape_of, shaped_of, checked_of}
+use Rattle.request.specs.Refusal.{number_of, place_of, refusal_of, answer}
 use Rattle.request.specs.declared.Refusal.{Refusal}
-use Rattle.request.specs.declared.Weighing.{Weighing}
-use Rattle.request.specs.declared.Weighing.TheVariants as weighing
-use Rattle.request.specs.declared.Checked.TheVariants as checked
+use Rattle.request.specs.declared.Refusal.TheVariants.{Labels}
 use Rattle.request.proofs.Accepted.{buckets-good}
-use Rattle.request.proofs.Stages.{decided}
+use Rattle.request.proofs.Named.{refusal-of}
 use Rattle.request.proofs.Tests.{lt-holds, lt-fails}
 
 module _ (R : Req) where
@@ -48,16 +47,16 @@ module _ (R : Req) where
   pub none_yet : Upto (1 ∷ 1 ∷ []) 0
   none_yet = record { size = refl; few = λ i l. absurd (not-suc-le-zero l); done = λ i l. absurd (not-suc-le-zero l); rest = λ i _ h. ones i h }
 
-  is-buckets : (j b : ℕ) → Count b ≡ buckets_of (ratio_p R j) (ratio_q R j) (top R j) → (b ≡ buckets R j) × (b ≤ 4096)
+  is-buckets : (j b : ℕ) → Some b ≡ buckets_of (ratio_p R j) (ratio_q R j) (top R j) → (b ≡ buckets R j) × (b ≤ 4096)
   unfolding buckets
   is-buckets j b e = count-is (ratio_p R j) (ratio_q R j) (top R j) e
 
-  is-over : (j : ℕ) → Over ≡ buckets_of (ratio_p R j) (ratio_q R j) (top R j) → 4096 < buckets R j
+  is-over : (j : ℕ) → None ≡ buckets_of (ratio_p R j) (ratio_q R j) (top R j) → 4096 < buckets R j
   unfolding buckets
   is-over j e = over-is (ratio_p R j) (ratio_q R j) (top R j) e
 
   -- the count of criterion j joins those before it
-  pub one_more : (counts : List ℕ) (j b : ℕ) → j < 2 → Upto counts j → Count b ≡ buckets_of (ratio_p R j) (ratio_q R j) (top R j) → Upto (set counts j b) (j + 1)
+  pub one_more : (counts : List ℕ) (j b : ℕ) → j < 2 → Upto counts j → Some b ≡ buckets_of (ratio_p R j) (ratio_q R j) (top R j) → Upto (set counts j b) (j + 1)
   one_more counts j b h u e =
       let told = is-buckets j b e in
       let size = u.size in
@@ -77,7 +76,7 @@ module _ (R : Req) where
   pub none_over : (counts : List ℕ) (graded : ℕ) → Upto counts graded → weigh (each (bucket_row R) graded) ≡ clear
   none_over counts graded u = each-clear (bucket_row R) graded (λ i l. under i (u.few i l))
 
-  pub first-over : (counts : List ℕ) (j graded : ℕ) → j < graded → Upto counts j → Over ≡ buckets_of (ratio_p R j) (ratio_q R j) (top R j) → weigh (each (bucket_row R) graded) ≡ refused 9 (j + 1)
+  pub first-over : (counts : List ℕ) (j graded : ℕ) → j < graded → Upto counts j → None ≡ buckets_of (ratio_p R j) (ratio_q R j) (top R j) → weigh (each (bucket_row R) graded) ≡ refused 9 (j + 1)
   unfolding bucket_row
   first-over counts j graded l u e = each-refused (bucket_row R) graded j l (lt-holds (is-over j e)) (λ i m. under i (u.few i m))
 
@@ -120,11 +119,11 @@ module _ (R : Req) where
 -- ---- the shape, or row 10
 
 module _ (n k b1 b2 : ℕ) where
-  pub too_many : 1048576 < (k + 1) * (n * (b1 * b2)) → shaped_of n k b1 b2 ≡ checked.Refused (record { number = 10; place = 0 })
+  pub too_many : 1048576 < (k + 1) * (n * (b1 * b2)) → shaped_of n k b1 b2 ≡ Err Labels
   unfolding shaped_of
   too_many h = rw (lt-ltb 1048576 ((k + 1) * (n * (b1 * b2))) h)
 
-  pub in-shape : (k + 1) * (n * (b1 * b2)) ≤ 1048576 → shaped_of n k b1 b2 ≡ checked.Shaped (record { b1 = b1; b2 = b2; cells = b1 * b2; labels = (k + 1) * (n * (b1 * b2)) })
+  pub in-shape : (k + 1) * (n * (b1 * b2)) ≤ 1048576 → shaped_of n k b1 b2 ≡ Ok (record { b1 = b1; b2 = b2; cells = b1 * b2; labels = (k + 1) * (n * (b1 * b2)) })
   unfolding shaped_of
   in-shape h = rw (le-ltb 1048576 ((k + 1) * (n * (b1 * b2))) h)
 
@@ -142,7 +141,7 @@ module _ (R : Req) (two : (R.graded ≡ 1) ⊎ (R.graded ≡ 2)) (early : weigh 
   labels = ap (λ (x : ℕ). (R.hops + 1) * (R.nodes * x)) product
 
   pub shape-decides : shaped_of R.nodes R.hops (count R 0) (count R 1) ≡ checked_of R
-  unfolding checked_of label_row
+  unfolding checked_of label_row refusal_of
   shape-decides = go (dec_lt 1048576 (label_count R))
     where
       go : Dec (1048576 < label_count R) → shaped_of R.nodes R.hops (count R 0) (count R 1) ≡ answer (weigh (rows R)) (shape_of R)
@@ -152,16 +151,20 @@ module _ (R : Req) (two : (R.graded ≡ 1) ⊎ (R.graded ≡ 2)) (early : weigh 
       go (no h) =
           let small : label_count R ≤ 1048576 = omega arith in
           in-shape R.nodes R.hops (count R 0) (count R 1) (rw labels at small)
-          ∙ ap₂ (λ (x y : ℕ). checked.Shaped (record { b1 = count R 0; b2 = count R 1; cells = x; labels = y })) (sym product) (sym labels)
+          ∙ ap₂ (λ (x y : ℕ). Ok (record { b1 = count R 0; b2 = count R 1; cells = x; labels = y })) (sym product) (sym labels)
           ∙ ap (λ (w : Weighed). answer w (shape_of R)) (sym (label-row ∙ weigh-passed (label_row R) [] (lt-fails small) ∙ weigh-none))
 
 -- an earlier refusal decides
-pub early-decides : (R : Req) (w : Weighing) (r : Refusal) → w ≡ weighing.Refused r → said w ≡ weigh (ask_rows R ++ arc_rows R) → checked.Refused r ≡ checked_of R
-unfolding checked_of rows
-early-decides R w r e s = ap (λ (z : Weighed). answer z (shape_of R)) (sym (ap said e) ∙ decided w r (ask_rows R ++ arc_rows R) (shape_rows R) e s)
+refusal-decides : (R : Req) (r : Refusal) → weigh (rows R) ≡ refused (number_of r) (place_of r) → Err r ≡ checked_of R
+unfolding checked_of
+refusal-decides R r e = sym (ap (λ (z : Weighed). answer z (shape_of R)) e ∙ ap Err (refusal-of r))
 
-pub bucket-decides : (R : Req) (w : Weighing) (r : Refusal) → weigh (ask_rows R ++ arc_rows R) ≡ clear → w ≡ weighing.Refused r → said w ≡ weigh (each (bucket_row R) R.graded) → checked.Refused r ≡ checked_of R
-unfolding checked_of rows shape_rows
-bucket-decides R w r early e s =
-    ap (λ (z : Weighed). answer z (shape_of R))
-    (sym (ap said e) ∙ decided w r (each (bucket_row R) R.graded) (label_row R ∷ []) e s ∙ sym (weigh-append (ask_rows R ++ arc_rows R) (shape_rows R) early))
+pub early-decides : (R : Req) (r : Refusal) → weigh (ask_rows R ++ arc_rows R) ≡ refused (number_of r) (place_of r) → Err r ≡ checked_of R
+unfolding rows
+early-decides R r e = refusal-decides R r (weigh-front (ask_rows R ++ arc_rows R) (shape_rows R) (number_of r) (place_of r) e)
+
+pub bucket-decides : (R : Req) (r : Refusal) → weigh (ask_rows R ++ arc_rows R) ≡ clear → weigh (each (bucket_row R) R.graded) ≡ refused (number_of r) (place_of r) → Err r ≡ checked_of R
+unfolding rows shape_rows
+bucket-decides R r early e =
+    refusal-decides R r
+    (weigh-append (ask_rows R ++ arc_rows R) (shape_rows R) early ∙ weigh-front (each (bucket_row R) R.graded) (label_row R ∷ []) (number_of r) (place_of r) e)

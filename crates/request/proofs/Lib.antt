@@ -1,5 +1,8 @@
 pub mod Tests
 pub mod Branches
+pub mod Named
+pub mod Chunks
+pub mod Costs
 pub mod Filling
 pub mod Tops
 pub mod Accepted

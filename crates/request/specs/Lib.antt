@@ -1,5 +1,6 @@
 pub mod Request
 pub mod Shape
 pub mod Rows
+pub mod Refusal
 pub mod Answer
 pub mod Accepted

@@ -39,9 +39,13 @@ arc_fault n d w =
     (cond (eqb (get_or w 0 0) (get_or w 1 0)) 17
     (cond (any (λ j. ltb 1000000 (get_or w (j + 2) 0)) d) 8 0))
 
+-- the row of an arc's fault: it holds where there is one
+abbrev pub fault_row : ℕ → ℕ → Row
+fault_row fault a = record { number = fault; holds = ltb 0 fault; place = a }
+
 -- row 8, "arc's node or cost out of range", and 17, "weighed together with 8 in that order within an arc"; "first such arc from 0"
 unfoldable pub arc_row : ℕ → ℕ → List ℕ → ℕ → Row
-arc_row n d arcs a = record { number = arc_fault n d (at (d + 2) arcs a); holds = ltb 0 (arc_fault n d (at (d + 2) arcs a)); place = a }
+arc_row n d arcs a = fault_row (arc_fault n d (at (d + 2) arcs a)) a
 
 -- row 9: "B over 4,096"; "first such criterion from 1"
 unfoldable pub bucket_row : Req → ℕ → Row

@@ -3,25 +3,92 @@
 
 mod weigh;
 
-ghost use Rattle.std.specs.Prelude.{◌≡◌, [], ◌∷◌, ◌+◌, ◌-◌, ◌*◌, ◌/◌, ◌≤◌, ◌<◌, max, length, get_or};
+ghost use Rattle.std.specs.Prelude.{◌≡◌, [], ◌∷◌, ◌+◌, ◌-◌, ◌*◌, ◌/◌, ◌≤◌, ◌<◌, IfOk, length, get_or};
 ghost use Rattle.words.specs.Pieces.{join, write};
 ghost use Rattle.words.specs.Rows.{weigh, each};
 ghost use Rattle.fences.specs.Fence.{fences};
 ghost use Rattle.fences.specs.Answer.{buckets_of};
 ghost use Rattle.request.specs.Request.{asked, ratio_p, ratio_q};
+ghost use Rattle.request.specs.Refusal.{number_of, place_of, said};
 ghost use Rattle.request.specs.Shape.{largest_of, top, count};
 ghost use Rattle.request.specs.Rows.{bucket_row};
-ghost use Rattle.request.specs.Answer.{said, shaped_of, checked_of, Ladders};
+ghost use Rattle.request.specs.Answer.{shaped_of, checked_of, Ladders};
 ghost use Rattle.request.specs.Accepted.{Regular, Small};
 
-use fences::Buckets;
-use weigh::{refuse, weigh_asked};
+use fences::Ratio;
+use weigh::weigh_asked;
 
-// A refusal: document 01's number, and its place, 0 where none is named.
+// A refusal: a row of document 01's table, with its place where the row names one.
 #[derive(Clone, Copy)]
-pub struct Refusal {
-    pub number: u32,
-    pub place: u32,
+pub enum Refusal {
+    // The sheet's form: the first bad line, from 1.
+    Form(u32),
+    Nodes,
+    Criteria,
+    Source,
+    Hops,
+    // The ratio of a criterion, from 1.
+    Ratio(u32),
+    ArcWords,
+    // An arc's node or cost, by the arc from 0.
+    Arc(u32),
+    // A track from a camp to itself, by the arc from 0.
+    Loop(u32),
+    // The bucket count of a criterion, from 1.
+    Buckets(u32),
+    Labels,
+    // A number to be written has more than eight digits.
+    Digits,
+    // The sheet has too many bytes.
+    Bytes,
+    // The first lent buffer that is too short, from 1.
+    Room(u32),
+    // There is no such layer, node or cell.
+    Place,
+    // The layer in which a chain breaks.
+    Chain(u32),
+}
+
+impl Refusal {
+    // Document 01's number for it.
+    pub fn number(self) -> u32
+        ensures { result ≡ number_of self }
+    {
+        match self {
+            Refusal::Form(_) => 1,
+            Refusal::Nodes => 2,
+            Refusal::Criteria => 3,
+            Refusal::Source => 4,
+            Refusal::Hops => 5,
+            Refusal::Ratio(_) => 6,
+            Refusal::ArcWords => 7,
+            Refusal::Arc(_) => 8,
+            Refusal::Buckets(_) => 9,
+            Refusal::Labels => 10,
+            Refusal::Digits => 11,
+            Refusal::Bytes => 12,
+            Refusal::Room(_) => 13,
+            Refusal::Place => 14,
+            Refusal::Chain(_) => 16,
+            Refusal::Loop(_) => 17,
+        }
+    }
+
+    // Its place, 0 where none is named.
+    pub fn place(self) -> u32
+        ensures { result ≡ place_of self }
+    {
+        match self {
+            Refusal::Form(place)
+            | Refusal::Ratio(place)
+            | Refusal::Arc(place)
+            | Refusal::Loop(place)
+            | Refusal::Buckets(place)
+            | Refusal::Room(place)
+            | Refusal::Chain(place) => place,
+            _ => 0,
+        }
+    }
 }
 
 // A request: nodes N, criteria d, the source, hops K, and p and q for each criterion but the last, one pair after another.
@@ -44,47 +111,33 @@ pub struct Shape {
     pub labels: u32,
 }
 
-// The first refusal, or the shape of the table.
-#[derive(Clone, Copy)]
-pub enum Checked {
-    Shaped(Shape),
-    Refused(Refusal),
-}
-
-// What weighing some of the rows gives.
-#[derive(Clone, Copy)]
-enum Weighing {
-    Clear,
-    Refused(Refusal),
-}
-
-// The larger of two numbers.
-fn larger(x: u32, y: u32) -> u32
-    ensures { result ≡ max x y }
-{
-    if x < y {
-        return y;
-    }
-    x
-}
-
 // The largest cost of criterion j among arcs of w words.
 fn largest(arcs: &[u32], w: usize, j: usize) -> u32
     requires { (j + 2 < w) × (length arcs.now ≤ 2560) }
     ensures { result ≡ largest_of w arcs.now (length arcs.now / w) j }
 {
-    let m = arcs.len() / w;
-    let mut most: u32 = 0;
-    let mut a = 0;
-    while a < m {
-        most = larger(most, arcs[a * w + (j + 2)]);
-        a += 1;
+    let mut most = 0;
+    for arc in arcs.chunks_exact(w) {
+        most = most.max(arc[j + 2]);
     }
     most
 }
 
-// The bucket count of criterion j.
-fn count_buckets(q: Request, arcs: &[u32], j: usize) -> Buckets
+// The ratio of criterion j.
+fn ratio(ratios: [u32; 4], j: usize) -> Ratio
+    requires in_use { j < 2 }
+    requires q_positive { 0 < get_or ratios (j * 2 + 1) 0 }
+    requires p_within { get_or ratios (j * 2) 0 ≤ get_or ratios (j * 2 + 1) 0 }
+    ensures { (result.p ≡ get_or ratios (j * 2) 0) × (result.q ≡ get_or ratios (j * 2 + 1) 0) }
+{
+    Ratio {
+        p: ratios[j * 2],
+        q: ratios[j * 2 + 1],
+    }
+}
+
+// The bucket count of criterion j, none where it is over 4,096.
+fn count_buckets(q: Request, arcs: &[u32], j: usize) -> Option<u32>
     requires j_bound { j < q.criteria - 1 }
     requires regular { Regular (asked q arcs.now) }
     requires small { Small (asked q arcs.now) }
@@ -92,49 +145,26 @@ fn count_buckets(q: Request, arcs: &[u32], j: usize) -> Buckets
 {
     let most = largest(arcs, q.criteria as usize + 2, j);
     let top = q.hops * most;
-    let ratios = q.ratios;
-    fences::count(ratios[j * 2], ratios[j * 2 + 1], top)
+    ratio(q.ratios, j).count(top)
 }
 
-// What counting the buckets of all criteria gives: row 9, and the counts, 1 where a criterion has no ratio.
-#[derive(Clone, Copy)]
-struct Counted {
-    outcome: Weighing,
-    counts: [u32; 2],
-}
-
-fn count_all(q: Request, arcs: &[u32]) -> Counted
+// Row 9, or the bucket counts, 1 where a criterion has no ratio.
+fn count_all(q: Request, arcs: &[u32]) -> Result<[u32; 2], Refusal>
     requires regular { Regular (asked q arcs.now) }
     requires small { Small (asked q arcs.now) }
-    ensures outcome_value { said result.outcome ≡ weigh (each (bucket_row (asked q arcs.now)) (q.criteria - 1)) }
-    ensures counts_value { result.outcome ≡ Weighing.Clear → result.counts ≡ count (asked q arcs.now) 0 ∷ count (asked q arcs.now) 1 ∷ [] }
+    ensures outcome { said result ≡ weigh (each (bucket_row (asked q arcs.now)) (q.criteria - 1)) }
+    ensures counts { IfOk result (λ counts. counts ≡ count (asked q arcs.now) 0 ∷ count (asked q arcs.now) 1 ∷ []) }
 {
     let graded = q.criteria as usize - 1;
     let mut counts = [1u32; 2];
-    let mut j = 0;
-    while j < graded {
-        let counted = count_buckets(q, arcs, j);
-        match counted {
-            Buckets::Over => {
-                return Counted {
-                    outcome: refuse(9, (j + 1) as u32),
-                    counts,
-                };
-            }
-            Buckets::Count(b) => {
-                counts[j] = b;
-            }
-        }
-        j += 1;
+    for j in 0..graded {
+        counts[j] = count_buckets(q, arcs, j).ok_or(Refusal::Buckets(j as u32 + 1))?;
     }
-    Counted {
-        outcome: Weighing::Clear,
-        counts,
-    }
+    Ok(counts)
 }
 
 // Row 10, or the shape, from the bucket counts.
-fn judge_labels(q: Request, b1: u32, b2: u32) -> Checked
+fn judge_labels(q: Request, b1: u32, b2: u32) -> Result<Shape, Refusal>
     requires { (q.nodes ≤ 64) × (q.hops ≤ 63) × (b1 ≤ 4096) × (b2 ≤ 4096) }
     ensures { result ≡ shaped_of q.nodes q.hops b1 b2 }
 {
@@ -142,12 +172,9 @@ fn judge_labels(q: Request, b1: u32, b2: u32) -> Checked
     let layer = (q.nodes as u64) * cells;
     let labels = ((q.hops as u64) + 1) * layer;
     if 1048576 < labels {
-        return Checked::Refused(Refusal {
-            number: 10,
-            place: 0,
-        });
+        return Err(Refusal::Labels);
     }
-    Checked::Shaped(Shape {
+    Ok(Shape {
         b1,
         b2,
         cells: cells as u32,
@@ -156,19 +183,11 @@ fn judge_labels(q: Request, b1: u32, b2: u32) -> Checked
 }
 
 // The first refusal of rows 2 to 10 with 17, or the shape of the table.
-pub fn check(q: Request, arcs: &[u32]) -> Checked
+pub fn check(q: Request, arcs: &[u32]) -> Result<Shape, Refusal>
     ensures { result ≡ checked_of (asked q arcs.now) }
 {
-    let asked = weigh_asked(q, arcs);
-    if let Weighing::Refused(r) = asked {
-        return Checked::Refused(r);
-    }
-    let counted = count_all(q, arcs);
-    let outcome = counted.outcome;
-    if let Weighing::Refused(r) = outcome {
-        return Checked::Refused(r);
-    }
-    let counts = counted.counts;
+    weigh_asked(q, arcs)?;
+    let counts = count_all(q, arcs)?;
     judge_labels(q, counts[0], counts[1])
 }
 
@@ -178,11 +197,9 @@ pub fn fill_ladders(ladders: &mut [u32], ratios: [u32; 4], counts: [u32; 2], gra
     ensures { ladders.new ≡ write ladders.old 0 (join (λ j. fences (get_or ratios (j * 2) 0) (get_or ratios (j * 2 + 1) 0) (get_or counts j 0 + 1)) graded) }
 {
     let mut at = 0;
-    let mut j = 0;
-    while j < graded {
+    for j in 0..graded {
         let end = at + counts[j] as usize + 1;
-        fences::fill(&mut ladders[at..end], ratios[j * 2], ratios[j * 2 + 1]);
+        ratio(ratios, j).fill(&mut ladders[at..end]);
         at = end;
-        j += 1;
     }
 }

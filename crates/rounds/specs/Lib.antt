@@ -1,3 +1,4 @@
 pub mod Label
+pub mod Step
 pub mod Rounds
 pub mod Passing

@@ -3,21 +3,22 @@ use Prim.Native.Nat.{ℕ, ◌*◌, ◌≤◌, ◌<◌}
 use mathlib.Core.Path.{◌≡◌, sym, ap, ◌∙◌, subst}
 use mathlib.Core.Bool.{Bool, true, false, cond, not, ◌||◌}
 use mathlib.Core.List.{List, [], ◌∷◌}
-use native.Mathlib.Omega.{arith}
 use lib.ListN.{length, get_or}
-use lib.Dec.{T, T_not, leb, ltb, eqb, lt→ltb, nltb→le}
-use borrow.Author.Tests.{eq-eqb, ne_eqb}
+use lib.Dec.{T, leb, ltb, nltb→le}
 use Rattle.words.specs.Pieces.{write}
 use Rattle.words.specs.Rows.{Weighed, clear, refused, weigh, settle}
-use Rattle.words.proofs.Choices.{true-is, is_true, nor-left}
+use Rattle.words.proofs.Choices.{nor-left}
 use Rattle.words.proofs.Rows.{weigh-append, weigh-front, weigh-held, weigh-passed, weigh-none}
 use Rattle.request.specs.Request.{Req, width, reach}
 use Rattle.request.specs.Shape.{cells, label_count}
 use Rattle.request.specs.Rows.{rows}
 use Rattle.request.specs.Accepted.{Accepted}
+use Rattle.request.specs.Refusal.{number_of, place_of}
+use Rattle.request.specs.declared.Refusal.{Refusal}
 use Rattle.request.proofs.Tests.{lt-holds, lt-fails}
+use Rattle.route.proofs.Numbers.{refusal-named}
 use Rattle.rounds.specs.Rounds.{label_in}
-use Rattle.rounds.specs.Label.{costs, step, filled}
+use Rattle.rounds.specs.Label.{costs, filled}
 use Rattle.route.specs.Chain.{Chain, whole, broken, chain}
 use Rattle.route.specs.Answer.{breaks, break_layer, arcs_of, back_rows, refusal, ended, ending_of, costs_after, route_after}
 use Rattle.route.specs.declared.Ending.{Ending}
@@ -63,18 +64,13 @@ module _ (R : Req) (W : List ℕ) (room i v c : ℕ) where
     unfolding back_rows Accepted
     label-left = weigh-append (rows R) _ placed.accepted ∙ weigh-passed _ _ (lt-fails placed.long) ∙ weigh-passed _ _ (lt-fails placed.roomy) ∙ weigh-passed _ _ placed.inside
 
-    pub empty-cell : step R (label_in R W i v c) ≡ 0 → weigh (back_rows R W room i v c) ≡ refused 15 0
-    unfolding filled
-    empty-cell e = label-left ∙ weigh-held _ _ (subst (λ (s : ℕ). T (cond (ltb 0 s) false true)) (sym e) tt)
+    pub empty-cell : filled R (label_in R W i v c) ≡ false → weigh (back_rows R W room i v c) ≡ refused 15 0
+    empty-cell e = label-left ∙ weigh-held _ _ (subst (λ (b : Bool). T (cond b false true)) (sym e) tt)
 
-    module _ (some : step R (label_in R W i v c) ≡ 0 → ⊥) where
+    module _ (some : filled R (label_in R W i v c) ≡ true) where
       -- and, where it is filled, its chain
       chain_left : weigh (back_rows R W room i v c) ≡ weigh (record { number = 16; holds = breaks (chain R W i v c); place = break_layer (chain R W i v c) } ∷ [])
-      unfolding filled
-      chain_left =
-          let p : 0 < step R (label_in R W i v c) = omega arith in
-          label-left
-          ∙ weigh-passed _ _ (subst (λ (b : Bool). T (not (cond b false true))) (sym (is_true (ltb 0 (step R (label_in R W i v c))) (lt→ltb 0 (step R (label_in R W i v c)) p))) tt)
+      chain_left = label-left ∙ weigh-passed _ _ (subst (λ (b : Bool). T (not (cond b false true))) (sym some) tt)
 
       pub chain-broken : (k : ℕ) → chain R W i v c ≡ broken k → weigh (back_rows R W room i v c) ≡ refused 16 k
       chain-broken k e =
@@ -87,10 +83,6 @@ module _ (R : Req) (W : List ℕ) (room i v c : ℕ) where
           ∙ weigh-passed (record { number = 16; holds = false; place = 0 }) [] tt ∙ weigh-none
 
 -- ---- the answers
-
--- a number that is not that of an empty cell
-pub other : {n : ℕ} → T (not (eqb n 15)) → n ≡ 15 → ⊥
-other {n} t e = T_not (eqb n 15) t (true-is (eq-eqb n 15 e))
 
 -- costs 0
 abbrev pub none : List ℕ
@@ -118,10 +110,8 @@ module _ (R : Req) (W buffer : List ℕ) (i v c : ℕ) where
     )
 
     -- a refusal leaves the buffer
-    pub refused_all : (n p : ℕ) → weigh (back_rows R W (length buffer) i v c) ≡ refused n p → (n ≡ 15 → ⊥) → e ≡ ending.Refused (record { number = n; place = p })
-        → Answered R W buffer i v c e xs buffer
-    unfolding refusal
-    refused_all n p w h q = left n p w (q ∙ sym (ap (λ (b : Bool). cond b ending.Empty (ending.Refused (record { number = n; place = p }))) (ne_eqb n 15 h)))
+    pub refused_all : (r : Refusal) → weigh (back_rows R W (length buffer) i v c) ≡ refused (number_of r) (place_of r) → e ≡ ending.Refused r → Answered R W buffer i v c e xs buffer
+    refused_all r w q = left (number_of r) (place_of r) w (q ∙ sym (refusal-named r))
 
     -- and so does an empty cell
     pub empty-all : weigh (back_rows R W (length buffer) i v c) ≡ refused 15 0 → e ≡ ending.Empty → Answered R W buffer i v c e xs buffer

@@ -4,9 +4,11 @@ use mathlib.Core.Path.{◌≡◌, refl, sym, ap, ap₂, ◌∙◌, subst}
 use mathlib.Core.Bool.{Bool, true, false, ◌&&◌}
 use mathlib.Core.List.{List, [], ◌∷◌}
 use native.Mathlib.Omega.{arith}
-use lib.ListN.{length, get_or, take, drop, replicate, length-drop, length-replicate, get_or-replicate}
+use lib.ListN.{length, get_or, take, drop, replicate, length-drop}
 use lib.Seq.{length-take-le, get_or-take, get_or-drop, ext_get_or}
 use lib.Dec.{T, eqb, eqb→eq, eqb_refl}
+use lib.Pointwise.{pointwise}
+use Rattle.std.specs.List.{list_all}
 use Rattle.words.proofs.Choices.{is_true, true-is, and_both}
 use Rattle.rounds.specs.Label.{sum}
 use Rattle.rounds.proofs.Labels.{get_or-sum, length-sum}
@@ -48,26 +50,27 @@ difference xs ys j h = go (same xs ys) refl
     go false e = refl
     go true e = absurd (h (ap (λ (z : List ℕ). get_or z j 0) (same-equal xs ys (true-is e))))
 
--- ---- as the loops have it: a label's costs against none, against another's, against another's and an arc's
+-- ---- as the code has it: a label's costs against another's as slices, against none, and against another's and an arc's
+
+-- slices compared item by item
+pub same-pointwise : (xs ys : List ℕ) → pointwise eqb xs ys ≡ same xs ys
+unfolding same
+same-pointwise [] [] = refl
+same-pointwise [] (y ∷ ys) = refl
+same-pointwise (x ∷ xs) [] = refl
+same-pointwise (x ∷ xs) (y ∷ ys) = ap (λ (b : Bool). eqb x y && b) (same-pointwise xs ys)
+
+-- each is 0
+same-zeros : (xs : List ℕ) → list_all (λ x. eqb x 0) xs ≡ same xs (replicate (length xs) 0)
+unfolding same
+same-zeros [] = refl
+same-zeros (x ∷ xs) = ap (λ (b : Bool). eqb x 0 && b) (same-zeros xs)
+
+pub nothing-same : (l : List ℕ) (d : ℕ) → d ≤ length l → list_all (λ x. eqb x 0) (take d l) ≡ same (take d l) (replicate d 0)
+nothing-same l d h = same-zeros (take d l) ∙ ap (λ (n : ℕ). same (take d l) (replicate n 0)) (length-take-le d l h)
 
 module _ (l : List ℕ) (d : ℕ) (in-l : d ≤ length l) where
-  pub nothing-yes : ((j : ℕ) → j < d → get_or l j 0 ≡ 0) → true ≡ same (take d l) (replicate d 0)
-  nothing-yes h =
-      no_difference (take d l) (replicate d 0) d (length-take-le d l in-l) (length-replicate d 0)
-      (λ j g. get_or-take d l j 0 g ∙ h j g ∙ sym (get_or-replicate d j 0 0 g))
-
-  pub nothing-no : (j : ℕ) → j < d → (get_or l j 0 ≡ 0 → ⊥) → false ≡ same (take d l) (replicate d 0)
-  nothing-no j g h = difference (take d l) (replicate d 0) j (λ e. h (sym (get_or-take d l j 0 g) ∙ e ∙ get_or-replicate d j 0 0 g))
-
   module _ (m : List ℕ) (in-m : d ≤ length m) where
-    pub alike-yes : ((j : ℕ) → j < d → get_or l j 0 ≡ get_or m j 0) → true ≡ same (take d l) (take d m)
-    alike-yes h =
-        no_difference (take d l) (take d m) d (length-take-le d l in-l) (length-take-le d m in-m)
-        (λ j g. get_or-take d l j 0 g ∙ h j g ∙ sym (get_or-take d m j 0 g))
-
-    pub alike-no : (j : ℕ) → j < d → (get_or l j 0 ≡ get_or m j 0 → ⊥) → false ≡ same (take d l) (take d m)
-    alike-no j g h = difference (take d l) (take d m) j (λ e. h (sym (get_or-take d l j 0 g) ∙ e ∙ get_or-take d m j 0 g))
-
     module _ (arc : List ℕ) (long : length arc ≡ d + 2) where
       sum-word : (j : ℕ) → j < d → get_or (sum (take d m) (drop 2 arc)) j 0 ≡ get_or m j 0 + get_or arc (j + 2) 0
       sum-word j g =

@@ -1,13 +1,13 @@
 -- What a start, a kept label and an arc label are that hold, fact by fact; and each test from its facts. Assumes nothing.
 use Prim.Native.Nat.{ℕ, ◌≤◌, ◌<◌}
-use mathlib.Core.Path.{◌≡◌, refl, sym, subst}
-use mathlib.Core.Bool.{Bool, true, false, not, ◌&&◌}
+use mathlib.Core.Path.{◌≡◌, sym, ap, ◌∙◌, subst}
+use mathlib.Core.Bool.{Bool, false, not, ◌&&◌}
 use mathlib.Core.List.{List}
 use native.Mathlib.Nat.{lt_of_not-le}
 use native.Mathlib.Omega.{arith}
 use lib.ListN.{length, get_or, replicate, get_or-eq_default}
 use lib.Dec.{T, leb, ltb, eqb, leb→le, ltb→lt, eqb→eq}
-use borrow.Author.Tests.{eq-eqb, lt-ltb, le-leb}
+use borrow.Author.Tests.{eq-eqb, lt-ltb, le-leb, clash}
 use Rattle.words.proofs.Choices.{or_right, or-implies, and_both}
 use Rattle.request.specs.Request.{Req, arc_count, head, arc_costs}
 use Rattle.request.specs.Shape.{cells}
@@ -16,11 +16,6 @@ use Rattle.route.specs.Chain.{same, start_holds, agrees, kept_holds, arc_holds}
 use Rattle.route.proofs.Comparing.{same-equal, same_self}
 
 -- ---- tests
-
--- a test that cannot hold has failed
-pub not-held : (b : Bool) → (T b → ⊥) → false ≡ b
-not-held true h = absurd (h tt)
-not-held false h = refl
 
 -- each of several tests that hold together
 all4 : (a b c d : Bool) → T (a && b && c && d) → T a × T b × T c × T d
@@ -37,13 +32,20 @@ all6 a b c d e f t =
     let r = all4 a b c d q.0 in
     (r.0, r.1, r.2, r.3, q.1, p.1)
 
--- a bound passed is not kept
-pub not-under : {x y : ℕ} → x ≤ y → y < x → ⊥
-not-under h g = omega arith
-
 -- a word that is not 0 lies within the list
-pub word-inside : (l : List ℕ) (n : ℕ) → (get_or l n 0 ≡ 0 → ⊥) → n < length l
+word-inside : (l : List ℕ) (n : ℕ) → (get_or l n 0 ≡ 0 → ⊥) → n < length l
 word-inside l n h = lt_of_not-le (λ (g : length l ≤ n). h (get_or-eq_default l 0 g))
+
+-- where a label has a step its costs are whole
+module _ (R : Req) (l : List ℕ) where
+  pub costs-inside : (step R l ≡ 0 → ⊥) → R.criteria ≤ length l
+  unfolding step
+  costs-inside h = let n = word-inside l R.criteria h in omega arith
+
+  -- and so are those of a filled label reached
+  pub reached-inside : false ≡ not (filled R l) → R.criteria ≤ length l
+  unfolding filled
+  reached-inside e = costs-inside (λ z. clash (e ∙ ap (λ (w : ℕ). not (ltb 0 w)) z))
 
 -- ---- the costs of the label reached
 
@@ -51,16 +53,6 @@ module _ (R : Req) (xs reached ys : List ℕ) where
   agree-facts : T (agrees R xs reached ys) → T (filled R reached) → xs ≡ ys
   unfolding agrees
   agree-facts t u = same-equal xs ys (or-implies (filled R reached) (same xs ys) t u)
-
-  -- an empty label agrees with anything
-  pub agree-empty : step R reached ≡ 0 → true ≡ agrees R xs reached ys
-  unfolding agrees filled
-  agree-empty e = rw e
-
-  -- a filled one asks for its costs
-  pub agree-filled : (step R reached ≡ 0 → ⊥) → same xs ys ≡ agrees R xs reached ys
-  unfolding agrees filled
-  agree-filled h = let p : 0 < step R reached = omega arith in rw (lt-ltb 0 (step R reached) p)
 
   -- equal costs agree
   agree-true : xs ≡ ys → T (agrees R xs reached ys)
@@ -92,7 +84,7 @@ module _ (R : Req) (i : ℕ) (l : List ℕ) (v c : ℕ) where
       }
 
   -- the costs decide where all else is right
-  pub start-rest : step R l ≡ 1 → i ≡ 0 → v ≡ R.source → c ≡ 0 → from R l ≡ 0 → same (costs R l) (replicate R.criteria 0) ≡ start_holds R i l v c
+  start-rest : step R l ≡ 1 → i ≡ 0 → v ≡ R.source → c ≡ 0 → from R l ≡ 0 → same (costs R l) (replicate R.criteria 0) ≡ start_holds R i l v c
   unfolding start_holds
   start-rest s e n k f = rw (eq-eqb (step R l) 1 s, eq-eqb i 0 e, eq-eqb v R.source n, eq-eqb c 0 k, eq-eqb (from R l) 0 f)
 
@@ -122,7 +114,7 @@ module _ (R : Req) (i : ℕ) (l reached : List ℕ) where
       }
 
   -- the label reached decides where all else is right
-  pub kept-rest : step R l ≡ 2 → 0 < i → from R l ≡ 0 → agrees R (costs R l) reached (costs R reached) ≡ kept_holds R i l reached
+  kept-rest : step R l ≡ 2 → 0 < i → from R l ≡ 0 → agrees R (costs R l) reached (costs R reached) ≡ kept_holds R i l reached
   unfolding kept_holds
   kept-rest s b f = rw (eq-eqb (step R l) 2 s, lt-ltb 0 i b, eq-eqb (from R l) 0 f)
 
@@ -154,7 +146,7 @@ module _ (R : Req) (i : ℕ) (l : List ℕ) (v a : ℕ) (reached : List ℕ) whe
       }
 
   -- the label reached decides where all else is right
-  pub arc-rest : 3 ≤ step R l → 0 < i → a < arc_count R → head R a ≡ v → from R l < cells R
+  arc-rest : 3 ≤ step R l → 0 < i → a < arc_count R → head R a ≡ v → from R l < cells R
       → agrees R (costs R l) reached (sum (costs R reached) (arc_costs R a)) ≡ arc_holds R i l v a reached
   unfolding arc_holds
   arc-rest s b m h f = rw (le-leb 3 (step R l) s, lt-ltb 0 i b, lt-ltb a (arc_count R) m, eq-eqb (head R a) v h, lt-ltb (from R l) (cells R) f)

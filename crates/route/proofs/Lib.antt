@@ -1,3 +1,4 @@
+pub mod Steps
 pub mod Comparing
 pub mod Places
 pub mod Holding

@@ -7,16 +7,17 @@ use mathlib.Core.List.{List}
 use native.Mathlib.Decide.{ℕ_discrete}
 use native.Mathlib.Omega.{arith}
 use lib.ListN.{length, length-take}
-use lib.Dec.{T, leb, ltb, eqb, ltb→lt, nltb→le}
-use borrow.Author.Tests.{eqb-true}
+use lib.Dec.{T, leb, ltb, eqb, nltb→le}
+use borrow.Author.Tests.{eqb-true, eqb-false, lt-ltb}
 use Rattle.words.specs.Pieces.{write}
 use Rattle.words.specs.Rows.{Weighed, clear, refused, weigh, row, Decides, NoneHolds, settle}
 use Rattle.words.proofs.Rows.{weigh-clear-front, weigh-clear-back, clear-cons, refused-decides, decides-refused, none-clear, clear_none}
-use Rattle.words.proofs.Choices.{or-neither}
+use Rattle.words.proofs.Choices.{is_true, or-neither}
 use Rattle.request.specs.Request.{Req, width, reach}
 use Rattle.request.specs.Shape.{cells, label_count}
 use Rattle.request.specs.Rows.{rows}
 use Rattle.request.specs.Accepted.{Accepted, Regular}
+use Rattle.request.specs.Refusal.{number_of, place_of, refusal_of, Named}
 use Rattle.request.specs.declared.Refusal.{Refusal}
 use Rattle.request.proofs.Accepted.{accepted-regular}
 use Rattle.request.proofs.Tests.{lt-fails, le-fails}
@@ -29,7 +30,7 @@ use Rattle.route.specs.Answer.{breaks, arcs_of, back_rows, refusal, ended, endin
 use Rattle.route.specs.Walked.{Walked, Sound, RouteRead, Fronts}
 use Rattle.route.specs.declared.Ending.TheVariants as ending
 use Rattle.route.proofs.Sound.{chain-sound}
-use Rattle.route.proofs.Numbers.{early-number}
+use Rattle.route.proofs.Numbers.{early-number, back-named}
 use Rattle.route.proofs.Answering.{refused-early, layer-asked, Placed, empty-cell, chain-broken, chain-whole, three, none, Answered, route-all}
 use Rattle.route.proofs.Tables.{label-in, table-whole}
 
@@ -40,27 +41,27 @@ pub no-route : (n p k : ℕ) → refusal n p ≡ ending.Route k → ⊥
 unfolding refusal
 no-route n p k = go (eqb n 15)
   where
-    go : (b : Bool) → cond b ending.Empty (ending.Refused (record { number = n; place = p })) ≡ ending.Route k → ⊥
-    go true e = let z : ◌≡◌ {A = ℕ} 0 1 = cc in absurd (omega arith)
-    go false e = let z : ◌≡◌ {A = ℕ} 0 1 = cc in absurd (omega arith)
+    go : (b : Bool) → cond b ending.Empty (ending.Refused (refusal_of n p)) ≡ ending.Route k → ⊥
+    go true e = cc
+    go false e = cc
 
 -- an empty cell has number 15
 empty-number : (n p : ℕ) → refusal n p ≡ ending.Empty → n ≡ 15
 unfolding refusal
 empty-number n p = go (eqb n 15) refl
   where
-    go : (b : Bool) → eqb n 15 ≡ b → cond b ending.Empty (ending.Refused (record { number = n; place = p })) ≡ ending.Empty → n ≡ 15
+    go : (b : Bool) → eqb n 15 ≡ b → cond b ending.Empty (ending.Refused (refusal_of n p)) ≡ ending.Empty → n ≡ 15
     go true q e = eqb-true n 15 q
-    go false q e = let z : ◌≡◌ {A = ℕ} 0 1 = cc in absurd (omega arith)
+    go false q e = cc
 
--- and a refusal has its own
-refused-number : (n p : ℕ) (r : Refusal) → refusal n p ≡ ending.Refused r → (n ≡ r.number) × (p ≡ r.place)
+-- a refusal is that of its row's number and place, and no empty cell
+refused-of : (n p : ℕ) (r : Refusal) → refusal n p ≡ ending.Refused r → (n ≡ 15 → ⊥) × (refusal_of n p ≡ r)
 unfolding refusal
-refused-number n p r = go (eqb n 15)
+refused-of n p r = go (eqb n 15) refl
   where
-    go : (b : Bool) → cond b ending.Empty (ending.Refused (record { number = n; place = p })) ≡ ending.Refused r → (n ≡ r.number) × (p ≡ r.place)
-    go true e = let z : ◌≡◌ {A = ℕ} 0 1 = cc in absurd (omega arith)
-    go false e = let q : ◌≡◌ {A = Refusal} (record { number = n; place = p }) r = cc in (ap (λ (x : Refusal). x.number) q, ap (λ (x : Refusal). x.place) q)
+    go : (b : Bool) → eqb n 15 ≡ b → cond b ending.Empty (ending.Refused (refusal_of n p)) ≡ ending.Refused r → (n ≡ 15 → ⊥) × (refusal_of n p ≡ r)
+    go true q e = cc
+    go false q e = ((λ k. eqb-false n 15 q k), (cc))
 
 module _ (R : Req) (W : List ℕ) (room i v c : ℕ) where
   abbrev weighed : Weighed
@@ -118,17 +119,18 @@ module _ (R : Req) (W : List ℕ) (room i v c : ℕ) where
 
   -- and a refusal is answered only where its row decides
   pub refused-decided : (r : Refusal) → ending_of R W room i v c ≡ ending.Refused r
-      → (k : ℕ) × Decides (back_rows R W room i v c) k × ((row (back_rows R W room i v c) k).number ≡ r.number) × ((row (back_rows R W room i v c) k).place ≡ r.place)
-  unfolding ending_of
+      → (k : ℕ) × Decides (back_rows R W room i v c) k × ((row (back_rows R W room i v c) k).number ≡ number_of r) × ((row (back_rows R W room i v c) k).place ≡ place_of r)
+  unfolding ending_of Named
   refused-decided r = go (weigh (back_rows R W room i v c)) refl
     where
       go : (w : Weighed) → weighed ≡ w → ended w (length arcs) ≡ ending.Refused r
-          → (k : ℕ) × Decides (back_rows R W room i v c) k × ((row (back_rows R W room i v c) k).number ≡ r.number) × ((row (back_rows R W room i v c) k).place ≡ r.place)
-      go clear q e = let z : ◌≡◌ {A = ℕ} 0 1 = cc in absurd (omega arith)
+          → (k : ℕ) × Decides (back_rows R W room i v c) k × ((row (back_rows R W room i v c) k).number ≡ number_of r) × ((row (back_rows R W room i v c) k).place ≡ place_of r)
+      go clear q e = cc
       go (refused n p) q e =
-          let x = refused-number n p r e in
+          let x = refused-of n p r e in
+          let h = back-named R W room i v c n p q x.0 in
           let d = refused-decides (back_rows R W room i v c) n p q in
-          (d.0, d.1, d.2 ∙ x.0, d.3 ∙ x.1)
+          (d.0, d.1, d.2 ∙ sym h.0 ∙ ap number_of x.1, d.3 ∙ sym h.1 ∙ ap place_of x.1)
 
   -- an empty cell only where row 15 does
   pub empty-decided : ending_of R W room i v c ≡ ending.Empty → (k : ℕ) × Decides (back_rows R W room i v c) k × ((row (back_rows R W room i v c) k).number ≡ 15)
@@ -136,7 +138,7 @@ module _ (R : Req) (W : List ℕ) (room i v c : ℕ) where
   empty-decided = go (weigh (back_rows R W room i v c)) refl
     where
       go : (w : Weighed) → weighed ≡ w → ended w (length arcs) ≡ ending.Empty → (k : ℕ) × Decides (back_rows R W room i v c) k × ((row (back_rows R W room i v c) k).number ≡ 15)
-      go clear q e = let z : ◌≡◌ {A = ℕ} 0 1 = cc in absurd (omega arith)
+      go clear q e = cc
       go (refused n p) q e = let d = refused-decides (back_rows R W room i v c) n p q in (d.0, d.1, d.2 ∙ empty-number n p e)
 
   -- EMPTY, once the rows before it pass: exactly where the step is 0
@@ -145,24 +147,24 @@ module _ (R : Req) (W : List ℕ) (room i v c : ℕ) where
     placed = record { accepted = ok; long = long; roomy = roomy; inside = inside }
 
     pub empty-if : step R (label_in R W i v c) ≡ 0 → ending_of R W room i v c ≡ ending.Empty
-    unfolding ending_of refusal
-    empty-if z = ap (λ (w : Weighed). ended w (length arcs)) (empty-cell R W room i v c placed z)
+    unfolding ending_of refusal filled
+    empty-if z = ap (λ (w : Weighed). ended w (length arcs)) (empty-cell R W room i v c placed (ap (ltb 0) z))
 
     -- a filled label's chain breaks or is whole, and neither is an empty cell
-    not-empty : (step R (label_in R W i v c) ≡ 0 → ⊥) → (ch : Chain) → chain R W i v c ≡ ch → ending_of R W room i v c ≡ ending.Empty → ⊥
+    not-empty : filled R (label_in R W i v c) ≡ true → (ch : Chain) → chain R W i v c ≡ ch → ending_of R W room i v c ≡ ending.Empty → ⊥
     unfolding ending_of
     not-empty some (broken k) q e =
         let n = empty-number 16 k (sym (ap (λ (w : Weighed). ended w (length arcs)) (chain-broken R W room i v c placed some k q)) ∙ e) in absurd (omega arith)
     not-empty some (whole ws) q e =
-        let n : ending.Route (length arcs) ≡ ending.Empty = sym (ap (λ (w : Weighed). ended w (length arcs)) (chain-whole R W room i v c placed some ws q)) ∙ e in
-        let z : ◌≡◌ {A = ℕ} 0 1 = cc in absurd (omega arith)
+        let n : ending.Route (length arcs) ≡ ending.Empty = sym (ap (λ (w : Weighed). ended w (length arcs)) (chain-whole R W room i v c placed some ws q)) ∙ e in cc
 
     pub empty-only : ending_of R W room i v c ≡ ending.Empty → step R (label_in R W i v c) ≡ 0
+    unfolding filled
     empty-only e = go (ℕ_discrete (step R (label_in R W i v c)) 0)
       where
         go : Dec (step R (label_in R W i v c) ≡ 0) → step R (label_in R W i v c) ≡ 0
         go (yes z) = z
-        go (no h) = absurd (not-empty h (chain R W i v c) refl e)
+        go (no h) = absurd (not-empty (lt-ltb 0 (step R (label_in R W i v c)) (omega arith)) (chain R W i v c) refl e)
 
 -- an empty cell is told of an accepted request alone
 pub empty-accepted : (R : Req) (W : List ℕ) (room i v c : ℕ) → ending_of R W room i v c ≡ ending.Empty → Accepted R
@@ -213,12 +215,8 @@ module _ (R : Req) (ok : Accepted R) (W buffer : List ℕ) (front : Fronts R W) 
   unfolding Fronts
   long-enough = omega (arith, table-words R regular, ap length front, length-take (length (table R)) W)
 
-  filled_in : step R (label_in R W i v c) ≡ 0 → ⊥
-  unfolding filled
-  filled_in z =
-      let t : T (filled R (label_in R W i v c)) = subst (λ (l : List ℕ). T (filled R l)) (sym (label-in R regular W front i v c hi hv hc)) full in
-      let h = ltb→lt 0 (step R (label_in R W i v c)) t in
-      omega arith
+  filled_in : filled R (label_in R W i v c) ≡ true
+  filled_in = ap (filled R) (label-in R regular W front i v c hi hv hc) ∙ is_true (filled R (label_at R i v c)) full
 
   -- the read-back of a filled label answers its route: its arc count, its costs and its arcs
   pub table-route : Answered R W buffer i v c (ending.Route (length (route R i v c))) (three (costs R (label_at R i v c))) (write buffer 0 (route R i v c))

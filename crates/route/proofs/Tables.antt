@@ -1,12 +1,11 @@
 -- On the table that the build draws up every filled label's chain is whole, and its arcs are the label's route. Assumes nothing.
 use Prim.Native.Nat.{ℕ, zero, suc, ◌+◌, ◌-◌, ◌*◌, ◌≤◌, ◌<◌, zero-le, suc-le-suc}
 use mathlib.Core.Path.{◌≡◌, refl, sym, ap, ap₂, ◌∙◌, subst}
-use mathlib.Core.Bool.{not}
 use mathlib.Core.List.{List, []}
-use native.Mathlib.Nat.{le_of_lt, zero-add, add-sub_cancel_left}
+use native.Mathlib.Nat.{le_of_lt, zero-add}
 use native.Mathlib.Omega.{arith}
 use lib.ListN.{length, replicate, length-replicate}
-use lib.Dec.{T, not_T}
+use lib.Dec.{T}
 use Rattle.words.specs.Pieces.{part, at, write}
 use Rattle.words.proofs.Choices.{is_true}
 use Rattle.words.proofs.Pieces.{piece-end, join-at, at_at}
@@ -25,9 +24,9 @@ use Rattle.cover.specs.Cover.{route}
 use Rattle.cover.proofs.Routes.{route-kept, route-arc}
 use Rattle.route.specs.Chain.{whole, push, start_holds, kept_holds, arc_holds, chain}
 use Rattle.route.specs.Walked.{Fronts}
-use Rattle.route.specs.declared.Link.TheVariants as link
-use Rattle.route.proofs.Holding.{start-facts, start-true, kept-facts, kept-true, arc-true}
-use Rattle.route.proofs.Leading.{lead-ends, lead-kept, lead-came}
+use Rattle.route.specs.Links.{spot}
+use Rattle.route.proofs.Holding.{start-true, kept-true, arc-true}
+use Rattle.route.proofs.Leading.{lead-start, lead-kept, lead-came}
 use Rattle.route.proofs.Following.{chain-ends, chain-kept, chain-came}
 
 -- ---- a label of the table
@@ -71,25 +70,18 @@ module _ (R : Req) (ok : Regular R) where
         let e : label_in R W 0 v c ≡ start R =
         label-in 0 v c zero-le hv hc ∙ ap (λ (X : List ℕ). at (width R) X c) b ∙ ap₂ (λ (x y : ℕ). at (width R) (start_block R x) y) p.0 p.1 ∙ start-label R ok in
         let n = length-replicate R.criteria zero in
-        chain-ends R W 0 v c
-        (sym (lead-ends R W 0 v c
-        (start-true R 0 l v c
+        let one : step R l ≡ 1 = ap (step R) e ∙ step_label R (replicate R.criteria 0) 1 0 n in
+        let t : T (start_holds R 0 l v c) =
+        start-true R 0 l v c
         (record {
-          step_is = ap (step R) e ∙ step_label R (replicate R.criteria 0) 1 0 n;
+          step_is = one;
           layer_is = refl;
           node_is = p.0;
           cell_is = p.1;
           from_is = ap (from R) e ∙ from-label R (replicate R.criteria 0) 1 0 n;
           costs_are = ap (costs R) e ∙ start-costs R;
-        }))))
-
-    -- no other label is a start
-    module _ (i v c : ℕ) (s : ℕ) (is-s : step R (label_in R W i v c) ≡ s) where
-      not_start : (s ≡ 1 → ⊥) → T (not (start_holds R i (label_in R W i v c) v c))
-      not_start h = not_T (start_holds R i (label_in R W i v c) v c) (λ t. h (sym is-s ∙ (start-facts R i (label_in R W i v c) v c t).step_is))
-
-      not-kept : (s ≡ 2 → ⊥) → T (not (kept_holds R i (label_in R W i v c) (label_in R W (i - 1) v c)))
-      not-kept h = not_T (kept_holds R i (label_in R W i v c) (label_in R W (i - 1) v c)) (λ t. h (sym is-s ∙ (kept-facts R i (label_in R W i v c) (label_in R W (i - 1) v c) t).step_is))
+        }) in
+        chain-ends R W 0 v c (sym (lead-start R W 0 v c l refl one (sym (is_true (start_holds R 0 l v c) t))))
 
     module _ (i v c : ℕ) (hi : suc i ≤ R.hops) (hv : v < R.nodes) (hc : c < cells R) where
       abbrev l : List ℕ
@@ -109,8 +101,9 @@ module _ (R : Req) (ok : Regular R) where
           let f : from R l ≡ 0 = ap (from R) q ∙ from-label R (costs R (label_at R i v c)) 2 0 d in
           let same : costs R l ≡ costs R (label_in R W (suc i - 1) v c) = ap (costs R) q ∙ kept-costs R (label_at R i v c) n ∙ ap (costs R) (sym (below v c hv hc)) in
           let k : suc i - 1 ≡ i = omega arith in
-          chain-kept R W (suc i) v c hi
-          (sym (lead-kept R W (suc i) v c (not_start (suc i) v c 2 s (λ z. absurd (omega arith))) (kept-true R (suc i) l (label_in R W (suc i - 1) v c) s (suc-le-suc zero-le) f same)))
+          let t : T (kept_holds R (suc i) l (label_in R W (suc i - 1) v c)) = kept-true R (suc i) l (label_in R W (suc i - 1) v c) s (suc-le-suc zero-le) f same in
+          chain-kept R W (suc i) v c hi (spot (suc i - 1) v c)
+          (sym (lead-kept R W (suc i) v c l refl (suc i - 1) refl _ refl s (sym (is_true (kept_holds R (suc i) l (label_in R W (suc i - 1) v c)) t))))
           ∙ ap (λ (j : ℕ). chain R W j v c) k
 
       -- a label that came by an arc leads to the label that it came from
@@ -124,17 +117,14 @@ module _ (R : Req) (ok : Regular R) where
           let q : l ≡ came R a f old = label-in (suc i) v c hi hv hc ∙ e in
           let s : step R l ≡ 3 + a = ap (step R) q ∙ step_label R (candidate R a old) (3 + a) f d in
           let g : from R l ≡ f = ap (from R) q ∙ from-label R (candidate R a old) (3 + a) f d in
-          let x : 3 + a - 3 ≡ a = add-sub_cancel_left 3 a in
           let reached : List ℕ = label_in R W (suc i - 1) (tail R a) f in
           let same : costs R l ≡ sum (costs R reached) (arc_costs R a) =
           ap (costs R) q ∙ came-costs R ok a in-a old n f ∙ ap (λ (z : List ℕ). sum (costs R z) (arc_costs R a)) (sym (below (tail R a) f hu in_f)) in
           let t : T (arc_holds R (suc i) l v a reached) =
           arc-true R (suc i) l v a reached (omega arith) (suc-le-suc zero-le) in-a here (subst (λ (z : ℕ). z < cells R) (sym g) in_f) same in
           let k : suc i - 1 ≡ i = omega arith in
-          let lead = lead-came R W (suc i) v c (not_start (suc i) v c (3 + a) s (λ z. absurd (omega arith))) (not-kept (suc i) v c (3 + a) s (λ z. absurd (omega arith)))
-          (3 + a) (tail R a) f l reached refl (sym s) (ap (tail R) (sym x)) (sym g) refl {b = arc_holds R (suc i) l v (3 + a - 3) reached}
-          (rw x (is_true (arc_holds R (suc i) l v a reached) t)) refl in
-          chain-came R W (suc i) v c hi a (tail R a) f (sym lead ∙ ap (λ (z : ℕ). link.Came z (tail R a) f) x)
+          let lead = lead-came R W (suc i) v c l refl (suc i - 1) refl a (tail R a) f reached (omega arith, omega arith) refl (sym g) refl (sym (is_true (arc_holds R (suc i) l v a reached) t)) in
+          chain-came R W (suc i) v c hi a (spot (suc i - 1) (tail R a) f) (sym lead)
           ∙ ap (λ (j : ℕ). push a (chain R W j (tail R a) f)) k
 
     -- EVERY FILLED LABEL'S CHAIN IS WHOLE. By induction over the layers: a filled label of layer 0 is the start; one of a later layer was kept, or

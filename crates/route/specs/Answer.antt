@@ -5,6 +5,7 @@ use Rattle.words.specs.Rows.{Row, Weighed, clear, refused, weigh, settle}
 use Rattle.request.specs.Request.{Req, width, reach}
 use Rattle.request.specs.Shape.{cells, label_count}
 use Rattle.request.specs.Rows.{rows}
+use Rattle.request.specs.Refusal.{number_of, place_of, refusal_of}
 use Rattle.rounds.specs.Rounds.{label_in}
 use Rattle.rounds.specs.Label.{costs, filled}
 use Rattle.route.specs.Chain.{Chain, whole, broken, chain}
@@ -39,7 +40,7 @@ back_rows R W room i v c =
 
 -- an empty cell is number 15; any other number is a refusal
 unfoldable pub refusal : ℕ → ℕ → Ending
-refusal n p = cond (eqb n 15) ending.Empty (ending.Refused (record { number = n; place = p }))
+refusal n p = cond (eqb n 15) ending.Empty (ending.Refused (refusal_of n p))
 
 -- "a route, an empty cell (number 15), or a refusal with its place"
 abbrev pub ended : Weighed → ℕ → Ending
@@ -54,7 +55,7 @@ ending_of R W room i v c = ended (weigh (back_rows R W room i v c)) (length (arc
 abbrev pub said : Ending → List ℕ
 said (ending.Route n) = 0 ∷ 0 ∷ n ∷ []
 said ending.Empty = 15 ∷ []
-said (ending.Refused r) = r.number ∷ r.place ∷ []
+said (ending.Refused r) = number_of r ∷ place_of r ∷ []
 
 -- the costs beside it: those of the asked label, 0 past its last and 0 where there is no route
 unfoldable pub costs_after : Req → List ℕ → ℕ → ℕ → ℕ → ℕ → List ℕ

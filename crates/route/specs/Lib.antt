@@ -2,3 +2,4 @@ pub mod Chain
 pub mod Links
 pub mod Answer
 pub mod Walked
+pub mod Found

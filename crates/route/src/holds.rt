@@ -1,14 +1,13 @@
-// What a label is that holds: its words in a buffer that may end too soon, and the tests of the three kinds.
-ghost use Rattle.std.specs.Prelude.{◌≡◌, List, ℕ, ◌+◌, ◌*◌, ◌≤◌, length, take, drop, replicate};
+// What a label is that holds: the tests of the three kinds, on words that may end too soon.
+ghost use Rattle.std.specs.Prelude.{◌≡◌, ◌+◌, ◌*◌, ◌≤◌, not, length, take, drop};
 ghost use Rattle.words.specs.Pieces.{at};
 ghost use Rattle.request.specs.Request.{asked};
-ghost use Rattle.request.specs.Shape as shape;
-ghost use Rattle.request.specs.Accepted.{Regular};
-ghost use Rattle.rounds.specs.Label.{sum};
+ghost use Rattle.rounds.specs.Label.{step, filled, sum};
+ghost use Rattle.rounds.specs.Step.{step_of};
 ghost use Rattle.route.specs.Chain.{same, start_holds, kept_holds, arc_holds};
-ghost use Rattle.route.specs.Links.{Within};
 
-use request::Request;
+use crate::store::{Spot, Store};
+use rounds::Step;
 use words::word;
 
 // Piece k of w words, as much of it as there is.
@@ -17,55 +16,7 @@ pub(crate) fn piece(s: &[u32], k: usize, w: usize) -> &[u32]
     ensures { result.now ≡ at w s.now k }
 {
     let n = s.len();
-    let at = k * w;
-    if n <= at {
-        return &s[n..n];
-    }
-    let end = at + w;
-    if n < end {
-        return &s[at..n];
-    }
-    &s[at..end]
-}
-
-// The words of the label of layer i, node v, cell c, as many of them as there are.
-pub(crate) fn label(labels: &[u32], q: Request, cells: u32, i: u32, v: u32, c: u32) -> &[u32]
-    requires { Within q.nodes q.criteria cells i }
-    ensures { result.now ≡ at (q.criteria + 2) labels.now ((i * q.nodes + v) * cells + c) }
-{
-    let node = i as usize * q.nodes as usize + v as usize;
-    let at = node * cells as usize + c as usize;
-    piece(labels, at, q.criteria as usize + 2)
-}
-
-// Whether the d costs of a label are 0.
-fn costs_nothing(l: &[u32], d: usize) -> bool
-    requires { d ≤ length l.now }
-    ensures { result ≡ same (take d l.now) (replicate d 0) }
-{
-    let mut j = 0;
-    while j < d {
-        if l[j] != 0 {
-            return false;
-        }
-        j += 1;
-    }
-    true
-}
-
-// Whether two labels have the same d costs.
-fn same_costs(l: &[u32], reached: &[u32], d: usize) -> bool
-    requires { (d ≤ length l.now) × (d ≤ length reached.now) }
-    ensures { result ≡ same (take d l.now) (take d reached.now) }
-{
-    let mut j = 0;
-    while j < d {
-        if l[j] != reached[j] {
-            return false;
-        }
-        j += 1;
-    }
-    true
+    &s[n.min(k * w)..n.min(k * w + w)]
 }
 
 // Whether a label's d costs are those of the label reached and the arc's, summed in 64 bits so that nothing wraps.
@@ -73,96 +24,68 @@ fn costs_add_up(l: &[u32], reached: &[u32], arc: &[u32], d: usize) -> bool
     requires { (d ≤ length l.now) × (d ≤ length reached.now) × (length arc.now ≡ d + 2) }
     ensures { result ≡ same (take d l.now) (sum (take d reached.now) (drop 2 arc.now)) }
 {
-    let mut j = 0;
-    while j < d {
+    // A chain is no plainer: `l[..d].iter().zip(&reached[..d]).zip(&arc[2..]).all(|((cost, before), more)| ..)`.
+    for j in 0..d {
         let sum = reached[j] as u64 + arc[j + 2] as u64;
         if l[j] as u64 != sum {
             return false;
         }
-        j += 1;
     }
     true
 }
 
-// Whether a label is a start and holds.
-pub(crate) fn start_holds(q: Request, l: &[u32], i: u32, v: u32, c: u32) -> bool
-    requires { q.criteria ≤ 3 }
-    ensures { (arcs : List ℕ) → result ≡ start_holds (asked q arcs) i l.now v c }
-{
-    let d = q.criteria as usize;
-    if word(l, d) != 1 {
-        return false;
+impl Store<'_> {
+    // What a label is, by its step word.
+    pub(crate) fn step(&self, l: &[u32]) -> Step
+        ensures { result ≡ step_of (step (asked self.now.request self.now.arcs.now) l.now) }
+    {
+        Step::from(word(l, self.request.criteria as usize))
     }
-    if i != 0 {
-        return false;
-    }
-    if v != q.source {
-        return false;
-    }
-    if c != 0 {
-        return false;
-    }
-    if word(l, d + 1) != 0 {
-        return false;
-    }
-    costs_nothing(l, d)
-}
 
-// Whether a label is a kept one and holds, where `reached` is the label of its cell in the layer before.
-pub(crate) fn kept_holds(q: Request, l: &[u32], i: u32, reached: &[u32]) -> bool
-    requires { q.criteria ≤ 3 }
-    ensures { (arcs : List ℕ) → result ≡ kept_holds (asked q arcs) i l.now reached.now }
-{
-    let d = q.criteria as usize;
-    if word(l, d) != 2 {
-        return false;
+    // Whether a label is empty.
+    pub(crate) fn is_empty(&self, l: &[u32]) -> bool
+        ensures { result ≡ not (filled (asked self.now.request self.now.arcs.now) l.now) }
+    {
+        matches!(self.step(l), Step::Empty)
     }
-    if i == 0 {
-        return false;
-    }
-    if word(l, d + 1) != 0 {
-        return false;
-    }
-    if word(reached, d) == 0 {
-        return true;
-    }
-    same_costs(l, reached, d)
-}
 
-// Whether a label came by arc a and holds, where `reached` is the label of its cell in the layer before.
-pub(crate) fn arc_holds(
-    q: Request,
-    arcs: &[u32],
-    cells: u32,
-    l: &[u32],
-    i: u32,
-    v: u32,
-    a: u32,
-    reached: &[u32],
-) -> bool
-    requires regular { Regular (asked q arcs.now) }
-    requires criteria_bound { (q.criteria ≤ 3) × (cells ≡ shape.cells (asked q arcs.now)) }
-    ensures { result ≡ arc_holds (asked q arcs.now) i l.now v a reached.now }
-{
-    let d = q.criteria as usize;
-    if word(l, d) < 3 {
-        return false;
+    // Whether the label of a spot, a start, holds.
+    pub(crate) fn start_holds(&self, l: &[u32], spot: Spot) -> bool
+        requires { step (asked self.now.request self.now.arcs.now) l.now ≡ 1 }
+        ensures { result ≡ start_holds (asked self.now.request self.now.arcs.now) spot.layer l.now spot.node spot.cell }
+    {
+        let d = self.request.criteria as usize;
+        let from = word(l, d + 1);
+        spot.layer == 0
+            && spot.node == self.request.source
+            && spot.cell == 0
+            && from == 0
+            && l[..d].iter().all(|cost| *cost == 0)
     }
-    if i == 0 {
-        return false;
+
+    // Whether the label of a spot, a kept one, holds, where `reached` is the label of its cell in the layer before.
+    pub(crate) fn kept_holds(&self, l: &[u32], spot: Spot, reached: &[u32]) -> bool
+        requires { step (asked self.now.request self.now.arcs.now) l.now ≡ 2 }
+        ensures { result ≡ kept_holds (asked self.now.request self.now.arcs.now) spot.layer l.now reached.now }
+    {
+        let d = self.request.criteria as usize;
+        let from = word(l, d + 1);
+        0 < spot.layer && from == 0 && (self.is_empty(reached) || l[..d] == reached[..d])
     }
-    if arcs.len() / (d + 2) <= a as usize {
-        return false;
+
+    // Whether the label of a spot, which came by an arc, holds, where `reached` is the label of the spot that it came from.
+    pub(crate) fn arc_holds(&self, l: &[u32], spot: Spot, arc: u32, reached: &[u32]) -> bool
+        requires { 3 ≤ step (asked self.now.request self.now.arcs.now) l.now }
+        ensures { result ≡ arc_holds (asked self.now.request self.now.arcs.now) spot.layer l.now spot.node arc reached.now }
+    {
+        let d = self.request.criteria as usize;
+        let words = piece(self.arcs, arc as usize, d + 2);
+        let head = word(words, 1);
+        let from = word(l, d + 1);
+        0 < spot.layer
+            && (arc as usize) < self.arcs.len() / (d + 2)
+            && head == spot.node
+            && from < self.cells
+            && (self.is_empty(reached) || costs_add_up(l, reached, words, d))
     }
-    let arc = piece(arcs, a as usize, d + 2);
-    if word(arc, 1) != v {
-        return false;
-    }
-    if cells <= word(l, d + 1) {
-        return false;
-    }
-    if word(reached, d) == 0 {
-        return true;
-    }
-    costs_add_up(l, reached, arc, d)
 }

@@ -2,7 +2,7 @@
 use Prim.Native.Nat.{ℕ}
 use mathlib.Core.Path.{◌≡◌, refl}
 use mathlib.Core.List.{List, [], ◌∷◌, ◌++◌}
-use Rattle.text.specs.declared.Number.TheVariants.{Fault}
+use Rattle.text.specs.Fault.{fault}
 use Rattle.text.specs.Field.{before, common}
 use Rattle.text.specs.Number.{digits_after, number, digits_within, digits}
 use Rattle.text.specs.Line.{item, numbers, line_of, parted, line_text}
@@ -47,11 +47,11 @@ unfolding tracks72 ask0211 before digits_after number common item numbers line_o
 after-ask = refl
 
 -- "Field `007`: 1", at its second byte; a ninth digit is at fault at byte 8
-leading-zero : number (48 ∷ 48 ∷ 55 ∷ []) ≡ Fault 1
+leading-zero : number (48 ∷ 48 ∷ 55 ∷ []) ≡ fault 1
 unfolding number
 leading-zero = refl
 
 -- a ninth digit is at fault at byte 8
-nine-digits : number (49 ∷ 50 ∷ 51 ∷ 52 ∷ 53 ∷ 54 ∷ 55 ∷ 56 ∷ 57 ∷ []) ≡ Fault 8
+nine-digits : number (49 ∷ 50 ∷ 51 ∷ 52 ∷ 53 ∷ 54 ∷ 55 ∷ 56 ∷ 57 ∷ []) ≡ fault 8
 unfolding number digits_after
 nine-digits = refl

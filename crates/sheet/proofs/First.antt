@@ -13,7 +13,8 @@ use Rattle.words.proofs.Choices.{lt-or-le}
 use Rattle.words.proofs.Bounds.{at_most-at}
 use Rattle.text.specs.Field.{before}
 use Rattle.text.specs.Number.{largest}
-use Rattle.text.specs.Line.{Got, good, bad}
+use Rattle.std.proofs.Common.{is_err}
+use Rattle.text.specs.Line.{Got, good, bad, answer_of}
 use Rattle.text.proofs.Written.{line_of-was}
 use Rattle.sheet.specs.Grammar.{lf, tab, tracks_word, tracks_line, whole, broken, lines_from, after_first, sheet_of}
 use Rattle.sheet.specs.Rendering.{Sheetable}
@@ -29,19 +30,20 @@ pub sheet-line : (s line : List ℕ) → line ≡ before lf s → length line < 
 unfolding sheet_of
 sheet-line s line q h = rw (← q, lt-ltb (length line) (length s) h)
 
--- ---- d is 2, 3 or another number
+-- ---- its numbers
 
--- d is 2
-pub first_two : (vs cs : List ℕ) → length vs ≡ 2 → get_or vs 1 0 ≡ 2 → after_first (good vs) cs ≡ lines_from (get_or vs 0 0) 2 0 2 [] cs
-first_two [] cs l e = absurd (omega arith)
-first_two (n ∷ []) cs l e = absurd (omega arith)
-first_two (n ∷ (d ∷ vs)) cs l e = let q : d ≡ 2 = e in rw q
+-- they are not two numbers
+pub first-err : (g : Got) (cs : List ℕ) → is_err (answer_of g) ≡ true → after_first g cs ≡ broken 1
+first-err (good vs) cs e = let z : ◌≡◌ {A = ℕ} 0 1 = cc in absurd (omega arith)
+first-err (bad j vs) cs e = refl
 
--- d is 3
-pub first_three : (vs cs : List ℕ) → length vs ≡ 2 → get_or vs 1 0 ≡ 3 → after_first (good vs) cs ≡ lines_from (get_or vs 0 0) 3 0 2 [] cs
-first_three [] cs l e = absurd (omega arith)
-first_three (n ∷ []) cs l e = absurd (omega arith)
-first_three (n ∷ (d ∷ vs)) cs l e = let q : d ≡ 3 = e in rw q
+-- d is 2 or 3
+pub first_in : (vs cs : List ℕ) → length vs ≡ 2 → 2 ≤ get_or vs 1 0 → get_or vs 1 0 ≤ 3
+    → after_first (good vs) cs ≡ lines_from (get_or vs 0 0) (get_or vs 1 0) 0 2 [] cs
+first_in [] cs l lo hi = absurd (omega arith)
+first_in (n ∷ []) cs l lo hi = absurd (omega arith)
+first_in (n ∷ (d ∷ vs)) cs l lo hi =
+    ⊎_elim (λ s. let q : d ≡ 2 = omega arith in rw q) (λ s. let q : d ≡ 3 = omega arith in rw q) (lt-or-le d 3)
 
 -- d is another number
 pub first-other : (vs cs : List ℕ) → (get_or vs 1 0 ≡ 2 → ⊥) → (get_or vs 1 0 ≡ 3 → ⊥) → after_first (good vs) cs ≡ broken 1

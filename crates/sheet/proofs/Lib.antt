@@ -15,3 +15,4 @@ pub mod Told
 pub mod RoundTrips
 pub mod Examples
 pub mod FirstBad
+pub mod Named

@@ -17,13 +17,12 @@ use Rattle.words.proofs.Writes.{spelled-all}
 use Rattle.request.specs.declared.Request.{Request}
 use Rattle.text.specs.Number.{largest, any_over}
 use Rattle.text.proofs.Numbers.{not-over, over-not}
-use Rattle.sheet.specs.declared.Outcome.TheVariants.{Sheet}
-use Rattle.sheet.specs.declared.Writing.TheVariants.{Bytes}
+use Rattle.sheet.specs.Answer.{counted}
 use Rattle.sheet.specs.Grammar.{whole, sheet_of}
 use Rattle.sheet.specs.Rendering.{sheet_text, Sheetable}
 use Rattle.sheet.specs.Inside.{form_of}
-use Rattle.sheet.specs.Reader.{said, words_of, request_from, request_of, read_says, read_request, arcs_after}
-use Rattle.sheet.specs.Writer.{writing_said, ask_numbers, asks_of, numbers_of, written, write_says, sheet_after, Ranged}
+use Rattle.sheet.specs.Reader.{words_of, request_from, request_of, read_says, read_request, arcs_after}
+use Rattle.sheet.specs.Writer.{ask_numbers, asks_of, numbers_of, written, write_says, sheet_after, Ranged}
 use Rattle.sheet.specs.RoundTrip.{SameBytes, comes_back, SameNumbers}
 use Rattle.sheet.proofs.First.{sheetable}
 use Rattle.sheet.proofs.Accepted.{sheet-was}
@@ -122,11 +121,11 @@ module _ (n d m : ℕ) (s words asks : List ℕ) (e : sheet_of s ≡ whole n d m
 
   -- so the writer answers the length of s, and writes s
   writes-back : (sheet : List ℕ) → length s ≤ 8192 → length s ≤ length sheet
-      → (write_says request words (length sheet) ≡ writing_said (Bytes (length s))) × (sheet_after request words sheet ≡ write sheet 0 s)
+      → (write_says request words (length sheet) ≡ counted (length s)) × (sheet_after request words sheet ≡ write sheet 0 s)
   writes-back sheet short fits =
       let l : length (written request words) ≡ length s = ap length same_text in
       let w = writes-sheet request words sheet in-range none-large (omega arith) (omega arith) in
-      (sym w.says ∙ ap (λ (k : ℕ). writing_said (Bytes k)) l, sym w.bytes ∙ ap (write sheet 0) same_text)
+      (sym w.value ∙ ap counted l, sym w.bytes ∙ ap (write sheet 0) same_text)
 
 -- A SHEET THAT IS READ AND WRITTEN BACK GIVES THE SAME BYTES
 pub same_bytes : SameBytes
@@ -158,7 +157,7 @@ can-be-read r words room w =
 
 -- what the reader makes of it
 reads-back : (r : Request) (words arcs : List ℕ) (room : ℕ) → Writable r words room → length words ≤ length arcs
-    → (read_says (written r words) (length arcs) ≡ said (Sheet (length words))) × (read_request (written r words) (length arcs) ≡ comes_back r)
+    → (read_says (written r words) (length arcs) ≡ counted (length words)) × (read_request (written r words) (length arcs) ≡ comes_back r)
     × (arcs_after (written r words) arcs ≡ write arcs 0 words)
 unfolding written
 reads-back r words arcs room w h =
@@ -166,7 +165,7 @@ reads-back r words arcs room w h =
     let q : sheet_of s ≡ whole r.nodes r.criteria (length words / (r.criteria + 2)) words (asks_of r) = sheet-written _ _ _ words (asks_of r) (can-be-read r words room w) in
     let v : words_of (sheet_of s) ≡ words = ap words_of q in
     let a = reads-sheet s arcs w.short _ (ap form_of q) (rw v h) in
-    (sym a.says ∙ ap (λ (l : List ℕ). said (Sheet (length l))) v, sym a.request ∙ ap request_of q ∙ asks-come-back r w.ranged.at_least w.ranged.at_most, sym a.arcs ∙ ap (write arcs 0) v)
+    (sym a.value ∙ ap (λ (l : List ℕ). counted (length l)) v, sym a.request ∙ ap request_of q ∙ asks-come-back r w.ranged.at_least w.ranged.at_most, sym a.arcs ∙ ap (write arcs 0) v)
 
 -- NUMBERS THAT ARE WRITTEN AND READ BACK ARE THE SAME NUMBERS, THE UNUSED RATIO 0 OVER 1
 pub same_numbers : SameNumbers

@@ -1,20 +1,21 @@
 -- The second pass over a whole sheet: the words of i arcs are stored, and the lines that are left say the rest. Assumes nothing.
 use Prim.Native.Nat.{ℕ, ◌+◌, ◌-◌, ◌*◌, ◌≤◌, ◌<◌}
 use mathlib.Core.Path.{◌≡◌, ap, sym, ◌∙◌}
-use mathlib.Core.List.{List, [], ◌++◌}
+use mathlib.Core.List.{List, [], ◌++◌, append-nil}
 use native.Mathlib.Omega.{arith}
-use lib.ListN.{length, take, drop, length-append, length-drop}
+use native.Mathlib.Nat.{add-mul, one-mul}
+use lib.ListN.{length, take, drop, length-append, length-drop, drop_of_length-le}
 use lib.Seq.{drop-drop, take-add, drop-append_seam, take-append_seam, length-take-le, take_all}
 use Rattle.words.specs.Pieces.{write}
-use Rattle.words.proofs.Writes.{lent, write-append}
+use Rattle.words.proofs.Writes.{lent, write-front, write-append}
 use Rattle.text.specs.Field.{before}
 use Rattle.text.specs.Line.{good, line_of}
 use Rattle.sheet.specs.declared.reader.Form.{Form}
-use Rattle.sheet.specs.declared.reader.Checked.TheVariants.{Whole}
+use Rattle.std.proofs.Common.{Ok}
 use Rattle.sheet.specs.Grammar.{lf, tab, arc_word, Contents, whole, broken, lines_from, sheet_of}
 use Rattle.sheet.specs.Rendering.{Sheetable}
-use Rattle.sheet.specs.Inside.{asked_from, form_of, request_for}
-use Rattle.sheet.specs.Reader.{words_of, request_of}
+use Rattle.sheet.specs.Inside.{form_of}
+use Rattle.sheet.specs.Reader.{words_of, request_from, request_of}
 use Rattle.sheet.proofs.Arcs.{lines-keeps, arc-here}
 use Rattle.sheet.proofs.First.{sheet-begun, sheetable}
 
@@ -36,24 +37,24 @@ asked_of (whole n d m words asks) = asks
 asked_of (broken k) = []
 
 -- a sheet of the form f
-whole-was : (p : Contents) (f : Form) → form_of p ≡ Whole f → p ≡ whole f.nodes f.criteria f.arcs (words_of p) (asked_of p)
+whole-was : (p : Contents) (f : Form) → form_of p ≡ Ok f → p ≡ whole f.request.nodes f.request.criteria f.arcs (words_of p) (asked_of p)
 whole-was (whole n d m words asks) f e =
-    let q : record { nodes = n; criteria = d; arcs = m; ask = asked_from asks } ≡ f = cc in
-    ap (λ (f : Form). whole f.nodes f.criteria f.arcs words asks) q
+    let q : record { request = request_from n d asks; arcs = m } ≡ f = cc in
+    ap (λ (f : Form). whole f.request.nodes f.request.criteria f.arcs words asks) q
 whole-was (broken k) f e = let z : ◌≡◌ {A = ℕ} 0 1 = cc in absurd (omega arith)
 
 -- its request
-pub form-request : (p : Contents) (f : Form) → form_of p ≡ Whole f → request_for f ≡ request_of p
+pub form-request : (p : Contents) (f : Form) → form_of p ≡ Ok f → f.request ≡ request_of p
 form-request (whole n d m words asks) f e =
-    let q : record { nodes = n; criteria = d; arcs = m; ask = asked_from asks } ≡ f = cc in
-    ap request_for (sym q)
+    let q : record { request = request_from n d asks; arcs = m } ≡ f = cc in
+    ap (λ (f : Form). f.request) (sym q)
 form-request (broken k) f e = let z : ◌≡◌ {A = ℕ} 0 1 = cc in absurd (omega arith)
 
 -- what can be written of it
-pub form-sheetable : (s : List ℕ) (f : Form) → form_of (sheet_of s) ≡ Whole f
-    → Sheetable f.nodes f.criteria f.arcs (words_of (sheet_of s)) (asked_of (sheet_of s))
+pub form-sheetable : (s : List ℕ) (f : Form) → form_of (sheet_of s) ≡ Ok f
+    → Sheetable f.request.nodes f.request.criteria f.arcs (words_of (sheet_of s)) (asked_of (sheet_of s))
 form-sheetable s f e =
-    sheetable f.nodes f.criteria f.arcs s (words_of (sheet_of s)) (asked_of (sheet_of s)) (whole-was (sheet_of s) f e)
+    sheetable f.request.nodes f.request.criteria f.arcs s (words_of (sheet_of s)) (asked_of (sheet_of s)) (whole-was (sheet_of s) f e)
 
 -- ---- i of the m arcs are stored, in p words, and the next line begins at byte `at`
 
@@ -66,16 +67,16 @@ Going s m at p i =
 -- the start: after the first line
 pub record Starts (s : List ℕ) (f : Form) (line : List ℕ) : Type 0 where
   pub room : length line < length s
-  pub criteria : criteria_of (sheet_of s) ≡ f.criteria
+  pub criteria : criteria_of (sheet_of s) ≡ f.request.criteria
   pub going : Going s f.arcs (length line + 1) 0 0
 
 -- the first line of a whole sheet of form f
-pub starts : (s : List ℕ) (f : Form) (line : List ℕ) → line ≡ before lf s → form_of (sheet_of s) ≡ Whole f → Starts s f line
+pub starts : (s : List ℕ) (f : Form) (line : List ℕ) → line ≡ before lf s → form_of (sheet_of s) ≡ Ok f → Starts s f line
 starts s f line q e =
     let w = whole-was (sheet_of s) f e in
-    let b = sheet-begun f.nodes f.criteria f.arcs s (words_of (sheet_of s)) (asked_of (sheet_of s)) line q w in
-    let n : nodes_of (sheet_of s) ≡ f.nodes = ap nodes_of w in
-    let d : criteria_of (sheet_of s) ≡ f.criteria = ap criteria_of w in
+    let b = sheet-begun f.request.nodes f.request.criteria f.arcs s (words_of (sheet_of s)) (asked_of (sheet_of s)) line q w in
+    let n : nodes_of (sheet_of s) ≡ f.request.nodes = ap nodes_of w in
+    let d : criteria_of (sheet_of s) ≡ f.request.criteria = ap criteria_of w in
     record { room = b.room; criteria = d; going = rw (n, d) b.after }
 
 -- a step: the line at byte `at` is one arc more, of n words
@@ -126,11 +127,25 @@ going_end s m at p i l u g =
     let t : i * (d + 2) ≡ m * (d + 2) = ap (λ (x : ℕ). x * (d + 2)) (omega arith) in
     take_all p ws (omega (arith, k.count, length-drop p ws))
 
+-- the same, as the next step has it
+pub steps-next : (s : List ℕ) (m at i n : ℕ) (line : List ℕ) → Steps s m at (i * n) i n line
+    → (at + (length line + 1) ≤ length s) × ((i + 1) * n ≤ length (words_of (sheet_of s))) × Going s m (at + (length line + 1)) ((i + 1) * n) (i + 1)
+steps-next s m at i n line h =
+    let p : i * n + n ≡ (i + 1) * n = omega (arith, add-mul i 1 n, one-mul n) in
+    let a : at + length line + 1 ≡ at + (length line + 1) = omega arith in
+    (omega (arith, h.room), omega (arith, h.fits), rw (← p, ← a) h.going)
+
 -- ---- the store of one arc's words
 
 -- the part that is lent for an arc has n words
 pub mid-length : (out : List ℕ) (p n : ℕ) → p + n ≤ length out → length (take (p + n - p) (drop p out)) ≡ n
 mid-length out p n h = length-take-le (p + n - p) (drop p out) (rw length-drop (omega arith)) ∙ omega arith
+
+-- all words fill the part that was lent for them
+pub fills : (out ws : List ℕ) → length ws ≡ length out → write out 0 ws ≡ ws
+fills out ws e =
+    let d : drop (length ws) out ≡ [] = drop_of_length-le out (omega arith) in
+    write-front out ws (omega arith) ∙ ap (λ (r : List ℕ). ws ++ r) d ∙ append-nil ws
 
 -- an arc's words come back right after those before
 pub stored : (out₀ out ws vs ys : List ℕ) (p n : ℕ) → out ≡ write out₀ 0 (take p ws) → take (p + n) ws ≡ take p ws ++ vs → length vs ≡ n

@@ -9,13 +9,13 @@ use Rattle.words.specs.Rows.{Weighed, clear, refused, weigh}
 use Rattle.words.proofs.Writes.{part-write-same}
 use Rattle.request.specs.declared.Request.{Request}
 use Rattle.request.specs.declared.Refusal.{Refusal}
-use Rattle.sheet.specs.declared.Outcome.TheVariants.{Sheet, Refused}
-use Rattle.sheet.specs.declared.Writing.TheVariants.{Bytes}
+use Rattle.request.specs.Refusal.{number_of, place_of}
+use Rattle.std.proofs.Common.{Err}
 use Rattle.sheet.specs.Grammar.{sheet_of}
 use Rattle.sheet.specs.Rendering.{Sheetable}
-use Rattle.sheet.specs.Answer.{told}
+use Rattle.sheet.specs.Answer.{counted, told}
 use Rattle.sheet.specs.Reader.{said, words_of, request_from, request_of, reader_rows, read_says, read_request, arcs_after}
-use Rattle.sheet.specs.Writer.{refused_writing, writing_said, written, writer_rows, write_says, sheet_after}
+use Rattle.sheet.specs.Writer.{writing_said, written, writer_rows, write_says, sheet_after}
 use Rattle.sheet.proofs.First.{sheetable}
 use Rattle.sheet.proofs.Clear.{told-clear, Readable, readable, Writable, writable}
 
@@ -51,8 +51,8 @@ clear-arcs : (s buffer : List ℕ) → weigh (reader_rows s (length buffer)) ≡
 unfolding arcs_after
 clear-arcs s buffer e = rw e refl
 
--- the answer Sheet n tells that
-pub read_told : (s buffer : List ℕ) (n : ℕ) → said (Sheet n) ≡ read_says s (length buffer) → SheetRead s buffer n
+-- an answer with the count n tells that
+pub read_told : (s buffer : List ℕ) (n : ℕ) → counted n ≡ read_says s (length buffer) → SheetRead s buffer n
 unfolding read_says
 read_told s buffer n e =
     let t = told-clear (weigh (reader_rows s (length buffer))) (length (words_of (sheet_of s))) n (sym e) in
@@ -68,11 +68,11 @@ read_told s buffer n e =
     }
 
 -- a refusal of the reader: its row is the first that holds, and the words are as they came
-pub read-refused-told : (s buffer : List ℕ) (r : Refusal) → said (Refused r) ≡ read_says s (length buffer)
-    → (weigh (reader_rows s (length buffer)) ≡ refused r.number r.place) × (arcs_after s buffer ≡ buffer)
+pub read-refused-told : (s buffer : List ℕ) (r : Refusal) → said (Err r) ≡ read_says s (length buffer)
+    → (weigh (reader_rows s (length buffer)) ≡ refused (number_of r) (place_of r)) × (arcs_after s buffer ≡ buffer)
 unfolding read_says arcs_after
 read-refused-told s buffer r e =
-    let w : weigh (reader_rows s (length buffer)) ≡ refused r.number r.place = told-refused (weigh (reader_rows s (length buffer))) (length (words_of (sheet_of s))) r.number r.place e in
+    let w : weigh (reader_rows s (length buffer)) ≡ refused (number_of r) (place_of r) = told-refused (weigh (reader_rows s (length buffer))) (length (words_of (sheet_of s))) (number_of r) (place_of r) e in
     (w, rw w refl)
 
 -- ---- the writer's
@@ -83,8 +83,8 @@ pub record SheetWritten (r : Request) (words buffer : List ℕ) (n : ℕ) : Type
   pub count : n ≡ length (written r words)
   pub stored : take n (sheet_after r words buffer) ≡ written r words
 
--- the answer Bytes n tells that
-pub written-told : (r : Request) (words buffer : List ℕ) (n : ℕ) → writing_said (Bytes n) ≡ write_says r words (length buffer) → SheetWritten r words buffer n
+-- an answer with the count n tells that
+pub written-told : (r : Request) (words buffer : List ℕ) (n : ℕ) → counted n ≡ write_says r words (length buffer) → SheetWritten r words buffer n
 unfolding write_says sheet_after
 written-told r words buffer n e =
     let t = told-clear (weigh (writer_rows r words (length buffer))) (length (written r words)) n (sym e) in
@@ -92,9 +92,10 @@ written-told r words buffer n e =
     record { can_be = w; count = sym t.1; stored = rw t.0 (front-is buffer (written r words) n w.fits (sym t.1)) }
 
 -- a refusal of the writer: its row is the first that holds, and the bytes are as they came
-pub write-refused-told : (r : Request) (words buffer : List ℕ) (number place : ℕ) → writing_said (refused_writing number place) ≡ write_says r words (length buffer)
-    → (weigh (writer_rows r words (length buffer)) ≡ refused number place) × (sheet_after r words buffer ≡ buffer)
+pub write-refused-told : (r : Request) (words buffer : List ℕ) (q : Refusal) → writing_said (Err q) ≡ write_says r words (length buffer)
+    → (weigh (writer_rows r words (length buffer)) ≡ refused (number_of q) (place_of q)) × (sheet_after r words buffer ≡ buffer)
 unfolding write_says sheet_after
-write-refused-told r words buffer number place e =
-    let w : weigh (writer_rows r words (length buffer)) ≡ refused number place = told-refused (weigh (writer_rows r words (length buffer))) (length (written r words)) number place e in
+write-refused-told r words buffer q e =
+    let w : weigh (writer_rows r words (length buffer)) ≡ refused (number_of q) (place_of q) =
+    told-refused (weigh (writer_rows r words (length buffer))) (length (written r words)) (number_of q) (place_of q) e in
     (w, rw w refl)

@@ -1,12 +1,12 @@
 -- Document 01, "Reader: 12, 1, 13 (arc words)": the reader's refusal table, its answer, and the arc words after it. Assumes nothing.
-use Rattle.std.specs.Prelude.{ℕ, Bool, true, false, List, [], ◌∷◌, ◌++◌, length, get_or, ltb}
+use Rattle.std.specs.Prelude.{ℕ, Bool, true, false, List, [], ◌∷◌, ◌++◌, length, get_or, ltb, Result, Ok, Err}
 use Rattle.words.specs.Pieces.{write}
 use Rattle.words.specs.Rows.{Row, weigh, settle}
 use Rattle.request.specs.declared.Request.{Request}
-use Rattle.sheet.specs.declared.Outcome.{Outcome}
-use Rattle.sheet.specs.declared.Outcome.TheVariants.{Sheet, Refused}
+use Rattle.request.specs.declared.Refusal.{Refusal}
+use Rattle.sheet.specs.declared.Reading.{Reading}
 use Rattle.sheet.specs.Grammar.{Contents, whole, broken, sheet_of}
-use Rattle.sheet.specs.Answer.{refusal_said, told}
+use Rattle.sheet.specs.Answer.{refusal_said, counted, told}
 
 -- whether the form is broken
 abbrev pub is_broken : Contents → Bool
@@ -34,7 +34,7 @@ request_from n d asks =
       ratios = get_or asks 2 0 ∷ get_or asks 3 0 ∷ get_or asks 4 0 ∷ get_or asks 5 1 ∷ [];
     }
 
--- the request beside a refusal: all zeros
+-- where there is none, all zeros
 abbrev pub no_request : Request
 no_request = record { nodes = 0; criteria = 0; source = 0; hops = 0; ratios = 0 ∷ 0 ∷ 0 ∷ 0 ∷ [] }
 
@@ -61,9 +61,9 @@ reader_rows s room =
     ∷ []
 
 -- a sheet has no number (0), no place (0) and the count of its arc words; a refusal its number and place
-abbrev pub said : Outcome → List ℕ
-said (Sheet n) = 0 ∷ 0 ∷ n ∷ []
-said (Refused r) = refusal_said r
+abbrev pub said : Result Reading Refusal → List ℕ
+said (Ok s) = counted s.words
+said (Err r) = refusal_said r
 
 -- the answer: the count of arc words, or the first refusal
 unfoldable pub read_says : List ℕ → ℕ → List ℕ

@@ -1,14 +1,13 @@
 -- Document 01, "Writer: 3, 7, 11, 12, 13 (sheet bytes)": the writer's refusal table, its answer, and the sheet bytes after it. Assumes nothing.
-use Rattle.std.specs.Prelude.{ℕ, ◌+◌, ◌*◌, ◌/◌, ◌%◌, ◌≤◌, ◌≡◌, List, [], ◌∷◌, ◌++◌, length, take, get_or, ltb}
+use Rattle.std.specs.Prelude.{ℕ, ◌+◌, ◌*◌, ◌/◌, ◌%◌, ◌≤◌, ◌≡◌, List, [], ◌∷◌, ◌++◌, length, take, get_or, ltb, Result, Ok, Err}
 use Rattle.words.specs.Pieces.{write}
 use Rattle.words.specs.Rows.{Row, weigh, settle}
 use Rattle.request.specs.declared.Request.{Request}
+use Rattle.request.specs.declared.Refusal.{Refusal}
 use Rattle.request.specs.Rows.{outside, arc_words_row}
 use Rattle.text.specs.Number.{any_over}
-use Rattle.sheet.specs.declared.Writing.{Writing}
-use Rattle.sheet.specs.declared.Writing.TheVariants.{Bytes, Refused}
-use Rattle.sheet.specs.Rendering.{sheet_text}
-use Rattle.sheet.specs.Answer.{refusal_said, told}
+use Rattle.sheet.specs.Rendering.{arc_lines, sheet_text}
+use Rattle.sheet.specs.Answer.{refusal_said, counted, told}
 
 -- "source, K, then p and q", of both ratios
 abbrev pub ask_numbers : Request → List ℕ
@@ -21,6 +20,10 @@ asks_of r = take (r.criteria * 2) (ask_numbers r)
 -- "a number to be written": N, d, every arc word, and those of `ask`
 unfoldable pub numbers_of : Request → List ℕ → List ℕ
 numbers_of r words = (r.nodes ∷ r.criteria ∷ []) ++ (words ++ asks_of r)
+
+-- the `arc` lines
+abbrev pub lines_of : Request → List ℕ → List ℕ
+lines_of r words = arc_lines (r.criteria + 2) (length words / (r.criteria + 2)) words
 
 -- the sheet's bytes
 unfoldable pub written : Request → List ℕ → List ℕ
@@ -49,13 +52,9 @@ writer_rows r words room =
     ∷ []
 
 -- a sheet that is written has no number (0), no place (0) and its length in bytes; a refusal its number and place
-abbrev pub writing_said : Writing → List ℕ
-writing_said (Bytes n) = 0 ∷ 0 ∷ n ∷ []
-writing_said (Refused r) = refusal_said r
-
--- a refusal
-abbrev pub refused_writing : ℕ → ℕ → Writing
-refused_writing number place = Refused (record { number = number; place = place })
+abbrev pub writing_said : Result ℕ Refusal → List ℕ
+writing_said (Ok n) = counted n
+writing_said (Err r) = refusal_said r
 
 -- the answer: the sheet's length in bytes, or the first refusal
 unfoldable pub write_says : Request → List ℕ → ℕ → List ℕ

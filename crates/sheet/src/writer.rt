@@ -1,142 +1,105 @@
 // The writer of a sheet: its length is known before its first byte is written.
-ghost use Rattle.std.specs.Prelude.{◌≡◌, ◌≤◌, ◌+◌, ◌*◌, length};
+ghost use Rattle.std.specs.Prelude.{◌≡◌, ◌≤◌, ◌+◌, length};
 ghost use Rattle.words.specs.Pieces.{write};
 ghost use Rattle.text.specs.Number.{any_over};
-ghost use Rattle.text.specs.Line.{line_text};
-ghost use Rattle.sheet.specs.Grammar.{tab, arc_word};
-ghost use Rattle.sheet.specs.Rendering.{arc_lines};
-ghost use Rattle.sheet.specs.Writer.{writing_said, refused_writing, ask_numbers, numbers_of, written, write_says, sheet_after, Ranged};
+ghost use Rattle.sheet.specs.Writer.{writing_said, ask_numbers, numbers_of, lines_of, written, write_says, sheet_after, Ranged};
 
-use crate::Writing;
 use request::{Refusal, Request};
+use text::TAB;
 
-const TAB: u8 = 9;
-
-// The numbers of the `ask` line, with both ratios.
-fn asks(request: Request) -> [u32; 6]
-    ensures { result ≡ ask_numbers request }
-{
-    let ratios = request.ratios;
-    [
-        request.source,
-        request.hops,
-        ratios[0],
-        ratios[1],
-        ratios[2],
-        ratios[3],
-    ]
+// What a sheet is to say, past rows 3 and 7: d is 2 or 3, and the words are those of at most 512 arcs.
+#[derive(Clone, Copy)]
+struct Content<'a> {
+    request: Request,
+    arcs: &'a [u32],
+    ghost ranged: { Ranged request.criteria arcs.now },
 }
 
-// Whether a number to be written is over 99,999,999.
-fn over(request: Request, arcs: &[u32]) -> bool
-    requires { Ranged request.criteria arcs.now }
-    ensures { result ≡ any_over (numbers_of request arcs.now) }
-{
-    let first = [request.nodes, request.criteria];
-    if text::any_over(&first) {
-        return true;
+impl Content<'_> {
+    // The numbers of the `ask` line, with both ratios.
+    fn asks(&self) -> [u32; 6]
+        ensures { result ≡ ask_numbers self.now.request }
+    {
+        let [p1, q1, p2, q2] = self.request.ratios;
+        [self.request.source, self.request.hops, p1, q1, p2, q2]
     }
-    if text::any_over(arcs) {
-        return true;
+
+    // Whether a number to be written is over 99,999,999.
+    fn over(&self) -> bool
+        ensures { result ≡ any_over (numbers_of self.now.request self.now.arcs.now) }
+    {
+        let v = self.asks();
+        let n = self.request.criteria as usize * 2;
+        text::any_over(&[self.request.nodes, self.request.criteria])
+            || text::any_over(self.arcs)
+            || text::any_over(&v[..n])
     }
-    let v = asks(request);
-    let n = request.criteria as usize * 2;
-    text::any_over(&v[..n])
-}
 
-// The sheet's length in bytes.
-fn sheet_length(request: Request, arcs: &[u32]) -> usize
-    requires { Ranged request.criteria arcs.now }
-    ensures value { result ≡ length (written request arcs.now) }
-    ensures upper_bound { result ≤ 65536 }
-{
-    let first = [request.nodes, request.criteria];
-    let d = request.criteria as usize;
-    let m = arcs.len() / (d + 2);
-    let v = asks(request);
-    let n = d * 2;
-    let lines = 7 + text::widths(&first) + m * 4 + text::widths(arcs);
-    lines + 4 + text::widths(&v[..n])
-}
-
-// Writes an `arc` line of these words from byte `at` on; the byte after it.
-fn put_arc(sheet: &mut [u8], at: usize, words: &[u32]) -> usize
-    requires { at + length (line_text tab arc_word words.now) ≤ length sheet.old }
-    ensures value { result ≡ at + length (line_text tab arc_word words.now) }
-    ensures sheet_after { sheet.new ≡ write sheet.old at (line_text tab arc_word words.now) }
-{
-    text::put_line(sheet, at, b"arc", TAB, words)
-}
-
-// Writes the `arc` lines from byte `at` on, m arcs of w words; the byte after them.
-fn put_arcs(sheet: &mut [u8], at: usize, arcs: &[u32], w: usize, m: usize) -> usize
-    requires { (length arcs.now ≡ m * w) × (at + length (arc_lines w m arcs.now) ≤ length sheet.old) }
-    ensures value { result ≡ at + length (arc_lines w m arcs.now) }
-    ensures sheet_after { sheet.new ≡ write sheet.old at (arc_lines w m arcs.now) }
-{
-    let mut a = at;
-    let mut p = 0;
-    let mut i = 0;
-    while i < m {
-        let e = p + w;
-        a = put_arc(sheet, a, &arcs[p..e]);
-        p = e;
-        i += 1;
+    // The sheet's length in bytes.
+    fn byte_count(&self) -> usize
+        ensures value { result ≡ length (written self.now.request self.now.arcs.now) }
+        ensures upper_bound { result ≤ 65536 }
+    {
+        let first = [self.request.nodes, self.request.criteria];
+        let d = self.request.criteria as usize;
+        let m = self.arcs.len() / (d + 2);
+        let v = self.asks();
+        let n = d * 2;
+        let lines = 7 + text::widths(&first) + m * 4 + text::widths(self.arcs);
+        lines + 4 + text::widths(&v[..n])
     }
-    a
-}
 
-// Writes the whole sheet.
-fn put_sheet(request: Request, arcs: &[u32], sheet: &mut [u8])
-    requires ranged { Ranged request.criteria arcs.now }
-    requires arcs_in_bounds { length (written request arcs.now) ≤ length sheet.old }
-    ensures { sheet.new ≡ write sheet.old 0 (written request arcs.now) }
-{
-    let first = [request.nodes, request.criteria];
-    let d = request.criteria as usize;
-    let w = d + 2;
-    let a = text::put_line(sheet, 0, b"tracks", TAB, &first);
-    let b = put_arcs(sheet, a, arcs, w, arcs.len() / w);
-    let v = asks(request);
-    let n = d * 2;
-    text::put_line(sheet, b, b"ask", TAB, &v[..n]);
-}
+    // Writes the `arc` lines from byte `at` on; the byte after them.
+    fn put_arcs(&self, sheet: &mut [u8], at: usize) -> usize
+        requires { at + length (lines_of self.now.request self.now.arcs.now) ≤ length sheet.old }
+        ensures value { result ≡ at + length (lines_of self.now.request self.now.arcs.now) }
+        ensures sheet_after { sheet.new ≡ write sheet.old at (lines_of self.now.request self.now.arcs.now) }
+    {
+        let w = self.request.criteria as usize + 2;
+        let mut e = at;
+        for arc in self.arcs.chunks_exact(w) {
+            e = text::put_line(sheet, e, b"arc", TAB, arc);
+        }
+        e
+    }
 
-// A refusal.
-fn refusal(number: u32, place: u32) -> Writing
-    ensures { result ≡ refused_writing number place }
-{
-    Writing::Refused(Refusal { number, place })
+    // Writes the whole sheet.
+    fn put(&self, sheet: &mut [u8])
+        requires { length (written self.now.request self.now.arcs.now) ≤ length sheet.old }
+        ensures { sheet.new ≡ write sheet.old 0 (written self.now.request self.now.arcs.now) }
+    {
+        let first = [self.request.nodes, self.request.criteria];
+        let a = text::put_line(sheet, 0, b"tracks", TAB, &first);
+        let b = self.put_arcs(sheet, a);
+        let v = self.asks();
+        let n = self.request.criteria as usize * 2;
+        text::put_line(sheet, b, b"ask", TAB, &v[..n]);
+    }
 }
 
 // Writes a sheet: its bytes at the front of the lent bytes.
-pub fn write(request: Request, arcs: &[u32], sheet: &mut [u8]) -> Writing
+pub fn write(request: Request, arcs: &[u32], sheet: &mut [u8]) -> Result<u32, Refusal>
     ensures result_value { writing_said result ≡ write_says request arcs.now (length sheet.old) }
     ensures sheet_after { sheet.new ≡ sheet_after request arcs.now sheet.old }
 {
-    if request.criteria < 2 {
-        return refusal(3, 0);
-    }
-    if 3 < request.criteria {
-        return refusal(3, 0);
+    if request.criteria < 2 || 3 < request.criteria {
+        return Err(Refusal::Criteria);
     }
     let w = request.criteria as usize + 2;
-    if arcs.len() % w != 0 {
-        return refusal(7, 0);
+    if arcs.len() % w != 0 || 512 < arcs.len() / w {
+        return Err(Refusal::ArcWords);
     }
-    if 512 < arcs.len() / w {
-        return refusal(7, 0);
+    let content = Content { request, arcs };
+    if content.over() {
+        return Err(Refusal::Digits);
     }
-    if over(request, arcs) {
-        return refusal(11, 0);
-    }
-    let n = sheet_length(request, arcs);
+    let n = content.byte_count();
     if 8192 < n {
-        return refusal(12, 0);
+        return Err(Refusal::Bytes);
     }
     if sheet.len() < n {
-        return refusal(13, 1);
+        return Err(Refusal::Room(1));
     }
-    put_sheet(request, arcs, sheet);
-    Writing::Bytes(n as u32)
+    content.put(sheet);
+    Ok(n as u32)
 }

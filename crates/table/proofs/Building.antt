@@ -1,11 +1,12 @@
 -- The build of an accepted request: its buffers weighed, its ladders filled, its frame. Assumes nothing.
 use Prim.Native.Nat.{ℕ, zero, suc, ◌+◌, ◌-◌, ◌*◌, ◌≤◌, ◌<◌}
-use mathlib.Core.Path.{◌≡◌, refl, sym, ap, ◌∙◌, subst}
+use mathlib.Core.Path.{◌≡◌, refl, sym, ap, ◌∙◌}
 use mathlib.Core.List.{List, [], ◌∷◌}
 use native.Mathlib.Nat.{le_trans, le_of_eq, mul-le-mul}
 use native.Mathlib.Omega.{arith}
 use lib.ListN.{length, get_or}
 use lib.Dec.{nltb→le}
+use Rattle.std.proofs.Common.{Ok, Err}
 use Rattle.words.specs.Pieces.{part, write, join}
 use Rattle.words.specs.Rows.{Weighed, clear, refused, weigh, settle}
 use Rattle.words.proofs.Loops.{total_ext}
@@ -17,6 +18,8 @@ use Rattle.fences.proofs.Fences as fences
 use Rattle.fences.proofs.Ladders as ladders-of
 use Rattle.request.specs.Request.{Req, asked, width, ratio_p, ratio_q}
 use Rattle.request.specs.Shape.{top, buckets, ladder, ladders, ladder_at, cells, label_count}
+use Rattle.request.specs.Refusal.{number_of, place_of, answer}
+use Rattle.request.specs.declared.Refusal.{Refusal}
 use Rattle.request.specs.Rows.{rows}
 use Rattle.request.specs.Accepted.{Accepted}
 use Rattle.request.specs.Answer.{shape_of, Ladders}
@@ -26,13 +29,12 @@ use Rattle.request.proofs.Accepted.{accepted-regular, accepted-small, accepted-f
 use Rattle.request.proofs.Answers.{cells-few}
 use Rattle.request.proofs.Counts.{count-in}
 use Rattle.request.proofs.Ladders.{ladders-length}
+use Rattle.request.proofs.Named.{refusal-of}
 use Rattle.request.proofs.Tests.{lt-holds, lt-fails}
 use Rattle.request.proofs.Tops.{top-le}
 use Rattle.rounds.specs.Rounds.{table, tries}
-use Rattle.tries.specs.declared.Frame.{Frame}
 use Rattle.tries.specs.Frame.{Framed}
-use Rattle.table.specs.declared.Built.TheVariants as built
-use Rattle.table.specs.Build.{build_rows, answer, built_of, ladders_after, labels_after, frame_of, ladder_words}
+use Rattle.table.specs.Build.{build_rows, built_of, Laddered, ladders_after, labels_after, ladder_words}
 use Rattle.rounds.proofs.Table.{table-words}
 
 -- ---- the rows
@@ -81,12 +83,12 @@ module _ (R : Req) (buffer labels : List ℕ) where
     sym (ap (λ (w : Weighed). settle w (write labels 0 (table R)) labels) e),
   )
 
-  pub refused_all : (n p : ℕ) → weigh (build_rows R (length buffer) (length labels)) ≡ refused n p
-      → (built.Refused (record { number = n; place = p }) ≡ built_of R (length buffer) (length labels)) × (buffer ≡ ladders_after R buffer (length labels)) × (labels ≡ labels_after R (length buffer) labels)
-  refused_all n p = settled (refused n p)
+  pub refused_all : (r : Refusal) → weigh (build_rows R (length buffer) (length labels)) ≡ refused (number_of r) (place_of r)
+      → (Err r ≡ built_of R (length buffer) (length labels)) × (buffer ≡ ladders_after R buffer (length labels)) × (labels ≡ labels_after R (length buffer) labels)
+  refused_all r e = let s = settled (refused (number_of r) (place_of r)) e in (ap Err (sym (refusal-of r)) ∙ s.0, s.1, s.2)
 
   pub built-all : weigh (build_rows R (length buffer) (length labels)) ≡ clear
-      → (built.Tries (tries R R.hops) ≡ built_of R (length buffer) (length labels))
+      → (Ok (tries R R.hops) ≡ built_of R (length buffer) (length labels))
       × (write buffer 0 (ladders R) ≡ ladders_after R buffer (length labels)) × (write labels 0 (table R) ≡ labels_after R (length buffer) labels)
   built-all = settled clear
 
@@ -149,44 +151,27 @@ module _ (q : Request) (arcs : List ℕ) (acc : Accepted (asked q arcs)) (s : Sh
   unfolding ladders
   filled-ladders = join-ext _ (ladder R) (q.criteria - 1) ladder-words
 
+  -- the ladders at the front of the buffer
+  pub laddered : (buffer after : List ℕ) → length (ladders (asked q arcs)) ≤ length buffer → after ≡ write buffer 0 (ladders (asked q arcs)) → Laddered (asked q arcs) after
+  laddered buffer after room f = ap (λ (x : List ℕ). part x 0 (length (ladders R))) f ∙ part-write-same buffer 0 (ladders R) (omega arith)
+
   -- ---- the frame
 
-  module _ (buffer after : List ℕ) (room : length (ladders (asked q arcs)) ≤ length buffer) (f : after ≡ write buffer 0 (ladders (asked q arcs))) where
-    framed : Framed (asked q arcs) (frame_of q s) after
-    unfolding frame_of
-    framed =
-        let c = cells_small in
-        let t = criteria-in in
-        let m = mul-le-mul c (let u = t.1 in five u) in
-        record {
-          sized = record { words = refl; whole = refl; some = omega arith; few = t.1; small = omega arith; cells_small = c };
-          regular = accepted-regular R acc;
-          bounded = accepted-small R acc;
-          fits = accepted-fits R acc;
-          d_is = refl;
-          cells_is = shape-cells;
-          counts_are = counts_are;
-          ladders_are = ap (λ (x : List ℕ). part x 0 (length (ladders R))) f ∙ part-write-same buffer 0 (ladders R) (omega arith);
-        }
-      where
-        five : {d : ℕ} → d ≤ 3 → d + 2 ≤ 5
-        five h = omega arith
-
-    -- as the code has it
-    pub framed-by : (F : Frame) → F ≡ frame_of q s → Framed (asked F.request arcs) F after
-    unfolding frame_of
-    framed-by F e = subst (λ (X : Frame). Framed (asked X.request arcs) X after) (sym e) framed
-
--- the fields of a frame
-module _ (q : Request) (s : Shape) (F : Frame) (e : F ≡ frame_of q s) where
-  pub request-by : F.request ≡ q
-  unfolding frame_of
-  request-by = ap (λ (x : Frame). x.request) e
-
-  pub criteria-by : F.d ≡ q.criteria
-  unfolding frame_of
-  criteria-by = ap (λ (x : Frame). x.d) e
-
-  pub width-by : F.w ≡ q.criteria + 2
-  unfolding frame_of
-  width-by = ap (λ (x : Frame). x.w) e
+  pub framed : (buffer : List ℕ) → Laddered (asked q arcs) buffer → Framed (asked q arcs) buffer q.criteria (q.criteria + 2) s.cells (s.cells * (q.criteria + 2)) (s.b1 ∷ s.b2 ∷ [])
+  framed buffer stand =
+      let c = cells_small in
+      let t = criteria-in in
+      let m = mul-le-mul c (let u = t.1 in five u) in
+      record {
+        sized = record { words = refl; whole = refl; some = omega arith; few = t.1; small = omega arith; cells_small = c };
+        regular = accepted-regular R acc;
+        bounded = accepted-small R acc;
+        fits = accepted-fits R acc;
+        d_is = refl;
+        cells_is = shape-cells;
+        counts_are = counts_are;
+        ladders_are = stand;
+      }
+    where
+      five : {d : ℕ} → d ≤ 3 → d + 2 ≤ 5
+      five h = omega arith

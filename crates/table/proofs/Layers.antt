@@ -21,6 +21,7 @@ use Rattle.rounds.proofs.Table.{table-length}
 use Rattle.rounds.specs.Passing.{Room, AllTried}
 use Rattle.rounds.proofs.Passing.{layer-room, layer-tried}
 use Rattle.rounds.proofs.Ties.{Fair, Stays}
+use Rattle.keeping.specs.declared.Note.{Note}
 use Rattle.table.specs.Build.{Layered, Notes}
 use Rattle.table.proofs.Passing.{layer_words}
 
@@ -48,8 +49,8 @@ module _ (R : Req) (ok : Regular R) (xs : List ℕ) (prev base : ℕ) (p : Layer
     pub kept_here : part ls base (layer_words R) ≡ keep_all R (part ls prev (layer_words R))
     kept_here = here ∙ ap (keep_all R) (sym before)
 
-    pub notes-here : (fs los his : List ℕ) → Notes R (part xs prev (layer_words R)) fs los his → Notes R (part ls prev (layer_words R)) fs los his
-    notes-here fs los his n = subst (λ (X : List ℕ). Notes R X fs los his) (sym before) n
+    pub notes-here : (ns : List Note) → Notes R (part xs prev (layer_words R)) ns → Notes R (part ls prev (layer_words R)) ns
+    notes-here ns n = subst (λ (X : List ℕ). Notes R X ns) (sym before) n
 
     -- keeping and then passing the arcs is the round
     pub round-law : (ls' : List ℕ) → ls' ≡ write ls base (up_to (arc_step R (part ls prev (layer_words R))) (part ls base (layer_words R)) (arc_count R)) → ls' ≡ write xs base (round R (part xs prev (layer_words R)))

@@ -19,7 +19,9 @@ use Rattle.rounds.proofs.Node.{try_arc-length}
 use Rattle.rounds.proofs.Tries.{filled_in-le}
 use Rattle.rounds.proofs.Passing.{round-tried}
 use Rattle.rounds.proofs.Ties.{Fair, Stays}
-use Rattle.tries.specs.Frame.{Apart, Ranged}
+use Rattle.keeping.specs.declared.Note.{Note}
+use Rattle.keeping.specs.Kept.{unnoted}
+use Rattle.tries.specs.Tries.{Apart, Ranged}
 use Rattle.table.specs.Build.{Layered, Notes}
 
 -- the words of a layer
@@ -116,12 +118,12 @@ module _ (R : Req) (xs : List ℕ) (prev base : ℕ) where
       tail-before = tail-block ∙ ap (λ (L : List ℕ). block R L (tail R a)) before
 
       -- what was noted of its tail
-      module _ (filled lows highs : List ℕ) (notes : Notes R (part xs prev (layer_words R)) filled lows highs) where
-        pub tail-range : (low high : ℕ) → low ≡ get_or lows (tail R a) 0 → high ≡ get_or highs (tail R a) 0 → Ranged R (part ls from (span R)) low high
-        tail-range low high e-l e-h = rw (e-l, e-h, tail-before) (notes.ranges (tail R a) (ok.tail_in a in-a))
+      module _ (ns : List Note) (notes : Notes R (part xs prev (layer_words R)) ns) where
+        pub tail-range : (note : Note) → note ≡ get_or ns (tail R a) unnoted → Ranged R (part ls from (span R)) note.low note.high
+        tail-range note e = rw (e, tail-before) (notes.ranges (tail R a) (ok.tail_in a in-a))
 
-        pub tail-count : (n : ℕ) → n ≡ get_or filled (tail R a) 0 → n ≡ filled_in R (block R (part xs prev (layer_words R)) (tail R a))
-        tail-count n e = e ∙ notes.counts (tail R a) (ok.tail_in a in-a)
+        pub tail-count : (note : Note) → note ≡ get_or ns (tail R a) unnoted → note.filled ≡ filled_in R (block R (part xs prev (layer_words R)) (tail R a))
+        tail-count note e = ap (λ (n : Note). n.filled) e ∙ notes.counts (tail R a) (ok.tail_in a in-a)
 
       -- its two blocks stand apart, and what its tail kept was tried
       pub arc-apart : Fair R.rule (Stays R.rule) → part xs base (layer_words R) ≡ keep_all R (part xs prev (layer_words R)) → Apart R ls from to a

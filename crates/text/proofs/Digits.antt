@@ -9,8 +9,9 @@ use lib.ListN.{length, get_or, length-append, get_or-append}
 use lib.Dec.{leb, eqb}
 use borrow.Author.Tests.{lt-ltb, le-ltb, le-leb, leb-true, eqb-true, eqb-false}
 use Rattle.words.proofs.Choices.{lt-or-le}
-use Rattle.text.specs.declared.Number.{Number}
-use Rattle.text.specs.declared.Number.TheVariants.{Value, Fault}
+use Rattle.std.specs.Prelude.{Result, Ok}
+use Rattle.text.specs.declared.Fault.{Fault}
+use Rattle.text.specs.Fault.{fault}
 use Rattle.text.specs.Number.{is_digit, digits_after, zero_alone, number, digits_within, digits, largest}
 use Rattle.text.proofs.Numbers.{number-first}
 
@@ -104,12 +105,12 @@ begins = by-tens Begins
     rw (digits_more n m, length-append, get_or-append (digits (n / 10)) _ 0 0 b.0) (omega arith, b.1))
 
 -- 0 alone
-number-zero : (n : ℕ) → n < 1 → number (digits n) ≡ Value n
+number-zero : (n : ℕ) → n < 1 → number (digits n) ≡ Ok n
 unfolding number
 number-zero n s = let e : n ≡ 0 = omega arith in rw (e, digits-small 0 (omega arith))
 
 -- the digits of n are read as n
-pub number_digits : (n : ℕ) → n ≤ 99999999 → number (digits n) ≡ Value n
+pub number_digits : (n : ℕ) → n ≤ 99999999 → number (digits n) ≡ Ok n
 unfolding digits_after
 number_digits n h =
     ⊎_elim (number-zero n)
@@ -122,7 +123,7 @@ number_digits n h =
 -- ---- write after read
 
 -- a choice that gives a value took the side that gives it
-cond-is : (b : Bool) (x : Number) (i n : ℕ) → cond b x (Fault i) ≡ Value n → (b ≡ true) × (x ≡ Value n)
+cond-is : (b : Bool) (x : Result ℕ Fault) (i n : ℕ) → cond b x (fault i) ≡ Ok n → (b ≡ true) × (x ≡ Ok n)
 cond-is true x i n e = (refl, e)
 cond-is false x i n e = let z : ◌≡◌ {A = ℕ} 0 1 = cc in absurd (omega arith)
 
@@ -132,8 +133,8 @@ and_both true b e = (refl, e)
 and_both false b e = (e, absurd (false≢true e))
 
 -- a reader that ends well found a digit, and room for it
-step-was : (v i c n : ℕ) (cs : List ℕ) → digits_after v i (c ∷ cs) ≡ Value n
-    → (48 ≤ c) × (c ≤ 57) × (v ≤ 9999999) × (digits_after (v * 10 + (c - 48)) (i + 1) cs ≡ Value n)
+step-was : (v i c n : ℕ) (cs : List ℕ) → digits_after v i (c ∷ cs) ≡ Ok n
+    → (48 ≤ c) × (c ≤ 57) × (v ≤ 9999999) × (digits_after (v * 10 + (c - 48)) (i + 1) cs ≡ Ok n)
 unfolding digits_after
 step-was v i c n cs e =
     let a = cond-is (is_digit c && leb v 9999999) _ i n e in
@@ -142,7 +143,7 @@ step-was v i c n cs e =
     (leb-true 48 c d.0, leb-true c 57 d.1, leb-true v 9999999 b.1, a.1)
 
 -- what is read after v is the digits that follow those of v
-digits-read : (v i n : ℕ) (s : List ℕ) → 1 ≤ v → v ≤ 99999999 → digits_after v i s ≡ Value n → (digits n ≡ digits v ++ s) × (n ≤ 99999999)
+digits-read : (v i n : ℕ) (s : List ℕ) → 1 ≤ v → v ≤ 99999999 → digits_after v i s ≡ Ok n → (digits n ≡ digits v ++ s) × (n ≤ 99999999)
 unfolding digits_after
 digits-read v i n [] p h e = let q : v ≡ n = cc in (ap digits (sym q) ∙ sym (append-nil (digits v)), omega arith)
 digits-read v i n (c ∷ cs) p h e =
@@ -155,14 +156,14 @@ digits-read v i n (c ∷ cs) p h e =
     (ih.0 ∙ rw (digits-snoc v (c - 48) p (omega arith), q) (append_assoc (digits v) (c ∷ []) cs), ih.1)
 
 -- a field that begins with 0 is 0 alone
-number-was-zero : (c n : ℕ) (cs : List ℕ) → c ≡ 48 → zero_alone cs ≡ Value n → (c ∷ cs ≡ digits n) × (n ≤ 99999999)
+number-was-zero : (c n : ℕ) (cs : List ℕ) → c ≡ 48 → zero_alone cs ≡ Ok n → (c ∷ cs ≡ digits n) × (n ≤ 99999999)
 number-was-zero c n [] q e =
     let z : 0 ≡ n = cc in
     (rw (← z, digits-small 0 (omega arith), q), omega arith)
 number-was-zero c n (x ∷ cs) q e = let z : ◌≡◌ {A = ℕ} 0 1 = cc in absurd (omega arith)
 
 -- any other that is read begins with its first digit
-number-was-other : (c n : ℕ) (cs : List ℕ) → (c ≡ 48 → ⊥) → digits_after 0 0 (c ∷ cs) ≡ Value n → (c ∷ cs ≡ digits n) × (n ≤ 99999999)
+number-was-other : (c n : ℕ) (cs : List ℕ) → (c ≡ 48 → ⊥) → digits_after 0 0 (c ∷ cs) ≡ Ok n → (c ∷ cs ≡ digits n) × (n ≤ 99999999)
 number-was-other c n cs q e =
     let w = step-was 0 0 c n cs e in
     let l = w.0 in
@@ -175,17 +176,17 @@ number-was-other c n cs q e =
     pos-of-ne c q l = omega arith
 
 -- what reads as n is the digits of n
-pub number-was : (s : List ℕ) (n : ℕ) → number s ≡ Value n → (s ≡ digits n) × (n ≤ 99999999)
+pub number-was : (s : List ℕ) (n : ℕ) → number s ≡ Ok n → (s ≡ digits n) × (n ≤ 99999999)
 unfolding number
 number-was [] n e = let z : ◌≡◌ {A = ℕ} 0 1 = cc in absurd (omega arith)
 number-was (c ∷ cs) n e = go (eqb c 48) refl e
   where
-    go : (b : Bool) → eqb c 48 ≡ b → cond b (zero_alone cs) (digits_after 0 0 (c ∷ cs)) ≡ Value n → (c ∷ cs ≡ digits n) × (n ≤ 99999999)
+    go : (b : Bool) → eqb c 48 ≡ b → cond b (zero_alone cs) (digits_after 0 0 (c ∷ cs)) ≡ Ok n → (c ∷ cs ≡ digits n) × (n ≤ 99999999)
     go true t e = number-was-zero c n cs (eqb-true c 48 t) e
     go false t e = number-was-other c n cs (eqb-false c 48 t) e
 
 -- A FIELD IS ACCEPTED AS THE NUMBER n EXACTLY WHERE IT IS THE DIGITS OF n, AND n IS AT MOST 99,999,999
-pub number-iff : (s : List ℕ) (n : ℕ) → (number s ≡ Value n) ↔ ((s ≡ digits n) × (n ≤ largest))
+pub number-iff : (s : List ℕ) (n : ℕ) → (number s ≡ Ok n) ↔ ((s ≡ digits n) × (n ≤ largest))
 number-iff s n = (number-was s n, λ h. ap number h.0 ∙ number_digits n h.1)
 
 -- ---- how many digits there are

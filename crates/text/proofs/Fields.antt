@@ -2,13 +2,15 @@
 use Prim.Native.Nat.{ℕ, suc, ◌+◌, ◌-◌, ◌≤◌, ◌<◌}
 use mathlib.Core.Path.{◌≡◌, refl, ap, sym, ◌∙◌}
 use mathlib.Core.List.{List, [], ◌∷◌, ◌++◌}
-use mathlib.Core.Bool.{Bool, true, false, cond}
+use mathlib.Core.Bool.{Bool, true, false, cond, not}
 use native.Mathlib.Omega.{arith}
 use native.Mathlib.Numerals.{add-one}
-use lib.ListN.{length, get_or, take, drop, drop_of_length-le, length-drop}
+use lib.ListN.{length, get_or, take, drop, length-drop}
 use lib.Seq.{drop-cons, take-suc, take_all, take-append-le}
-use lib.Dec.{eqb}
-use borrow.Author.Tests.{eq-eqb, ne_eqb, eqb-true}
+use lib.Dec.{eqb, ltb}
+use borrow.Author.Tests.{eq-eqb, ne_eqb, eqb-true, ltb-false}
+use Rattle.std.specs.Prelude.{Some, None, MatchOption, position}
+use Rattle.std.specs.List.{position_or_len, prefix_len, zip}
 use Rattle.text.specs.Field.{before, common}
 
 -- ---- one byte more, as the code counts
@@ -27,20 +29,24 @@ rest-is s b = take_all (length s - b) (drop b s) (simp length-drop (omega arith)
 
 -- ---- the bytes before b
 
--- b itself ends the stretch
-pub before-stop : (b i : ℕ) (s : List ℕ) → i < length s → get_or s i 0 ≡ b → before b (drop i s) ≡ []
+-- they end where `position` finds the first b
+before-position : (b : ℕ) (s : List ℕ) → before b s ≡ take (position_or_len (λ c. eqb c b) s) s
 unfolding before
-before-stop b i s h e = rw (drop-next i s h, eq-eqb (get_or s i 0) b e)
+before-position b [] = refl
+before-position b (c ∷ cs) = go (eqb c b) (before-position b cs)
+  where
+    go : (t : Bool) → before b cs ≡ take (position_or_len (λ c. eqb c b) cs) cs
+        → cond t [] (c ∷ before b cs) ≡ take (cond (not t) (1 + position_or_len (λ c. eqb c b) cs) 0) (c ∷ cs)
+    go true ih = refl
+    go false ih = let k : 1 + position_or_len (λ c. eqb c b) cs ≡ suc (position_or_len (λ c. eqb c b) cs) = omega arith in rw k (ap (λ (l : List ℕ). c ∷ l) ih)
 
--- any other byte is passed
-pub before_on : (b i : ℕ) (s : List ℕ) → i < length s → (get_or s i 0 ≡ b → ⊥) → before b (drop i s) ≡ get_or s i 0 ∷ before b (drop (i + 1) s)
-unfolding before
-before_on b i s h e = rw (drop-next i s h, ne_eqb (get_or s i 0) b e)
-
--- the end of the list ends it too
-pub before-end : (b i : ℕ) (s : List ℕ) → length s ≤ i → before b (drop i s) ≡ []
-unfolding before
-before-end b i s h = rw (drop_of_length-le s h)
+-- at that byte where there is one, and nowhere else
+pub before-is : (b : ℕ) (s : List ℕ) → MatchOption (position (λ c. eqb c b) s) (s ≡ before b s) (λ n. take n s ≡ before b s)
+before-is b s = go (position_or_len (λ c. eqb c b) s) (before-position b s) (ltb (position_or_len (λ c. eqb c b) s) (length s)) refl
+  where
+    go : (n : ℕ) → before b s ≡ take n s → (t : Bool) → ltb n (length s) ≡ t → MatchOption (cond t (Some n) None) (s ≡ before b s) (λ n. take n s ≡ before b s)
+    go n e true q = sym e
+    go n e false q = sym (e ∙ take_all n s (ltb-false n (length s) q))
 
 -- a byte that is not b is passed
 pub before-pass : (b c : ℕ) (cs : List ℕ) → (c ≡ b → ⊥) → before b (c ∷ cs) ≡ c ∷ before b cs
@@ -111,29 +117,15 @@ before-through b (c ∷ cs) u h = go (eqb c b) (before-through b cs u) h
 pub take-before : (b i : ℕ) (s : List ℕ) → i ≤ length (before b s) → take i s ≡ take i (before b s)
 take-before b i s h = ap (take i) (sym (before_split b s)) ∙ take-append-le i (before b s) (drop (length (before b s)) s) h
 
--- ---- bytes in common with a word, at index i
+-- ---- bytes in common with a word
 
-module _ (i : ℕ) (w l : List ℕ) where
-  -- the word is at its end
-  pub common-done : length w ≤ i → common (drop i w) (drop i l) ≡ 0
-  unfolding common
-  common-done h = rw (drop_of_length-le w h)
-
-  -- the line is at its end
-  pub common-short : i < length w → length l ≤ i → common (drop i w) (drop i l) ≡ 0
-  unfolding common
-  common-short h k = rw (drop-next i w h, drop_of_length-le l k)
-
-  -- two bytes differ
-  pub common-stop : i < length w → i < length l → (get_or l i 0 ≡ get_or w i 0 → ⊥) → common (drop i w) (drop i l) ≡ 0
-  unfolding common
-  common-stop h k e = rw (drop-next i w h, drop-next i l k, ne_eqb (get_or l i 0) (get_or w i 0) e)
-
-  -- two bytes agree
-  pub common-on : i < length w → i < length l → get_or l i 0 ≡ get_or w i 0
-      → common (drop i w) (drop i l) ≡ common (drop (i + 1) w) (drop (i + 1) l) + 1
-  unfolding common
-  common-on h k e = rw (drop-next i w h, drop-next i l k, eq-eqb (get_or l i 0) (get_or w i 0) e)
+-- as many as pairs of bytes agree from the front on
+pub common-zip : (w l : List ℕ) → common w l ≡ prefix_len (λ p. eqb p.0 p.1) (zip l w)
+unfolding common
+common-zip [] [] = refl
+common-zip [] (c ∷ l) = refl
+common-zip (x ∷ w) [] = refl
+common-zip (x ∷ w) (c ∷ l) = ap (λ (k : ℕ). cond (eqb c x) k 0) (ap (λ (k : ℕ). k + 1) (common-zip w l) ∙ omega arith)
 
 -- a line that begins with the word has all of it in common, and the other way round
 pub common-append : (w t : List ℕ) → common w (w ++ t) ≡ length w

@@ -10,25 +10,24 @@ use lib.Seq.{take-suc-set, length-take-le}
 use borrow.Author.Tests.{lt-ltb, le-ltb, eq-eqb, ne_eqb}
 use Rattle.words.specs.Pieces.{write}
 use Rattle.words.proofs.Writes.{write-front, front-more, write-none}
-use Rattle.text.specs.declared.Number.{Number}
-use Rattle.text.specs.declared.Item.TheVariants.{Found, Wrong}
-use Rattle.text.specs.declared.Line.{Line}
-use Rattle.text.specs.declared.Line.TheVariants.{Good, Bad}
+use Rattle.std.specs.Prelude.{Result, Ok}
+use Rattle.text.specs.declared.Fault.{Fault}
+use Rattle.text.specs.Fault.{fault}
 use Rattle.text.specs.Field.{before, common}
 use Rattle.text.specs.Number.{number}
-use Rattle.text.specs.Line.{Got, good, bad, placed, item, prepend, numbers, line_of, answer_of, taken_of}
+use Rattle.text.specs.Line.{Got, good, bad, found, placed, item, prepend, numbers, line_of, answer_of, taken_of}
 use Rattle.text.proofs.Fields.{drop-next}
 
 -- ---- one item, at byte `at`
 
 module _ (sep at : ℕ) (line : List ℕ) where
   -- the line ends
-  pub item-end : length line ≤ at → item sep at (drop at line) ≡ Wrong at
+  pub item-end : length line ≤ at → item sep at (drop at line) ≡ fault at
   unfolding item
   item-end h = rw (drop_of_length-le line h)
 
   -- another byte stands there
-  pub item-other : at < length line → (get_or line at 0 ≡ sep → ⊥) → item sep at (drop at line) ≡ Wrong at
+  pub item-other : at < length line → (get_or line at 0 ≡ sep → ⊥) → item sep at (drop at line) ≡ fault at
   unfolding item
   item-other h e = rw (drop-next at line h, ne_eqb (get_or line at 0) sep e)
 
@@ -39,20 +38,20 @@ module _ (sep at : ℕ) (line : List ℕ) where
   item-after h e = rw (drop-next at line h, eq-eqb (get_or line at 0) sep e)
 
 -- the same with the field that was cut, and what was read of it
-pub item-read : (sep at : ℕ) (line field : List ℕ) (g : Number) → at < length line → get_or line at 0 ≡ sep
+pub item-read : (sep at : ℕ) (line field : List ℕ) (g : Result ℕ Fault) → at < length line → get_or line at 0 ≡ sep
     → field ≡ before sep (drop (at + 1) line) → g ≡ number field → item sep at (drop at line) ≡ placed at (length field) g
 item-read sep at line field g h e k n = rw (n, k) (item-after sep at line h e)
 
 -- ---- the numbers, one more or the last
 
 -- one is found: the others follow it
-pub numbers_more : (sep n : ℕ) (line : List ℕ) (at v e : ℕ) → item sep at (drop at line) ≡ Found v e
+pub numbers_more : (sep n : ℕ) (line : List ℕ) (at v e : ℕ) → item sep at (drop at line) ≡ found v e
     → numbers sep (suc n) line at ≡ prepend v (numbers sep n line e)
 unfolding numbers
 numbers_more sep n line at v e h = rw h
 
 -- none is found: its fault is the line's
-numbers-wrong : (sep n : ℕ) (line : List ℕ) (at j : ℕ) → item sep at (drop at line) ≡ Wrong j → numbers sep (suc n) line at ≡ bad j []
+numbers-wrong : (sep n : ℕ) (line : List ℕ) (at j : ℕ) → item sep at (drop at line) ≡ fault j → numbers sep (suc n) line at ≡ bad j []
 unfolding numbers
 numbers-wrong sep n line at j h = rw h
 
@@ -93,7 +92,7 @@ pub record Reading (sep : ℕ) (out₀ line : List ℕ) (from : ℕ) (out : List
   pub long : length out ≡ length out₀
 
 -- what the function has to answer, and to leave in the buffer
-abbrev pub Answers : ℕ → List ℕ → List ℕ → ℕ → Line → List ℕ → Type 0
+abbrev pub Answers : ℕ → List ℕ → List ℕ → ℕ → Result Unit Fault → List ℕ → Type 0
 Answers sep out₀ line from r out = (r ≡ answer_of (numbers sep (length out₀) line from)) × (out ≡ write out₀ 0 (taken_of (numbers sep (length out₀) line from)))
 
 -- before the first number
@@ -107,7 +106,7 @@ module _ (sep : ℕ) (out₀ line : List ℕ) (from : ℕ) (out : List ℕ) (i a
   front_length = length-take-le i out (omega (arith, r.inside, r.long))
 
   -- one number more is stored
-  pub reading-on : (v e : ℕ) → i < length out₀ → length (set out i v) ≡ length out₀ → item sep at (drop at line) ≡ Found v e
+  pub reading-on : (v e : ℕ) → i < length out₀ → length (set out i v) ≡ length out₀ → item sep at (drop at line) ≡ found v e
       → Reading sep out₀ line from (set out i v) (i + 1) e
   reading-on v e h long q =
       let k : length out₀ - i ≡ suc (length out₀ - (i + 1)) = omega arith in
@@ -128,25 +127,25 @@ module _ (sep : ℕ) (out₀ line : List ℕ) (from : ℕ) (out : List ℕ) (i a
       r.kept ∙ sym (write-front out₀ (take i out) (omega (arith, r.inside)) ∙ ap (λ (k : ℕ). take i out ++ drop k out₀) n)
 
   -- a fault in what is left is the answer
-  answers-bad : (j : ℕ) → numbers sep (length out₀ - i) line at ≡ bad j [] → Answers sep out₀ line from (Bad j) out
+  answers-bad : (j : ℕ) → numbers sep (length out₀ - i) line at ≡ bad j [] → Answers sep out₀ line from (fault j) out
   answers-bad j e =
       let g : numbers sep (length out₀) line from ≡ bad j (take i out) = r.left ∙ ap (prefixed (take i out)) e ∙ ap (bad j) (append-nil (take i out)) in
       (sym (ap answer_of g), front-is ∙ ap (write out₀ 0) (sym (ap taken_of g)))
 
   -- a fault in the next number
-  pub reading-wrong : (j : ℕ) → i < length out₀ → item sep at (drop at line) ≡ Wrong j → Answers sep out₀ line from (Bad j) out
+  pub reading-wrong : (j : ℕ) → i < length out₀ → item sep at (drop at line) ≡ fault j → Answers sep out₀ line from (fault j) out
   reading-wrong j h q =
       let k : length out₀ - i ≡ suc (length out₀ - (i + 1)) = omega arith in
       answers-bad j (rw k (numbers-wrong sep (length out₀ - (i + 1)) line at j q))
 
   -- the line goes on after the last
-  pub reading-over : length out₀ ≤ i → at < length line → Answers sep out₀ line from (Bad at) out
+  pub reading-over : length out₀ ≤ i → at < length line → Answers sep out₀ line from (fault at) out
   reading-over h q =
       let k : length out₀ - i ≡ 0 = omega arith in
       answers-bad at (rw k (numbers-over sep line at q))
 
   -- the line ends after the last
-  pub reading-end : length out₀ ≤ i → length line ≤ at → Answers sep out₀ line from Good out
+  pub reading-end : length out₀ ≤ i → length line ≤ at → Answers sep out₀ line from (Ok tt) out
   reading-end h q =
       let k : length out₀ - i ≡ 0 = omega arith in
       let g : numbers sep (length out₀) line from ≡ good (take i out) =
@@ -166,19 +165,19 @@ unfolding line_of
 line_of-whole sep w n line c e h = rw (← e, le-ltb c (length w) h)
 
 -- what a line's reader has to answer, and to leave in the buffer
-abbrev pub LineAnswers : ℕ → List ℕ → List ℕ → List ℕ → Line → List ℕ → Type 0
+abbrev pub LineAnswers : ℕ → List ℕ → List ℕ → List ℕ → Result Unit Fault → List ℕ → Type 0
 LineAnswers sep word out₀ line r out =
     (r ≡ answer_of (line_of sep word (length out₀) line)) × (out ≡ write out₀ 0 (taken_of (line_of sep word (length out₀) line)))
 
 module _ (sep : ℕ) (word out₀ line : List ℕ) (c : ℕ) (e : c ≡ common word line) where
   -- the word is not there: nothing is stored
-  pub line-short : c < length word → LineAnswers sep word out₀ line (Bad c) out₀
+  pub line-short : c < length word → LineAnswers sep word out₀ line (fault c) out₀
   line-short h =
       let g : line_of sep word (length out₀) line ≡ bad c [] = line_of-short sep word (length out₀) line c e h in
       (sym (ap answer_of g), sym (ap (λ (x : Got). write out₀ 0 (taken_of x)) g ∙ write-none out₀ 0))
 
   -- the word is there: the numbers' answer is the line's
-  pub line-whole : length word ≤ c → (r : Line) (out : List ℕ) → Answers sep out₀ line (length word) r out → LineAnswers sep word out₀ line r out
+  pub line-whole : length word ≤ c → (r : Result Unit Fault) (out : List ℕ) → Answers sep out₀ line (length word) r out → LineAnswers sep word out₀ line r out
   line-whole h r out a =
       let g : numbers sep (length out₀) line (length word) ≡ line_of sep word (length out₀) line = sym (line_of-whole sep word (length out₀) line c e h) in
       (a.0 ∙ ap answer_of g, a.1 ∙ ap (λ (x : Got). write out₀ 0 (taken_of x)) g)

@@ -1,28 +1,23 @@
 -- Writing bytes, numbers and lines one after another, as one write. Assumes nothing.
-use Prim.Native.Nat.{ℕ, suc, ◌+◌, ◌/◌, ◌%◌, ◌≤◌, ◌<◌}
+use Prim.Native.Nat.{ℕ, suc, ◌+◌, ◌*◌, ◌/◌, ◌%◌, ◌≤◌, ◌<◌}
 use mathlib.Core.Path.{◌≡◌, refl, ap, sym, ◌∙◌}
 use mathlib.Core.List.{List, [], ◌∷◌, ◌++◌, append_assoc, append-nil}
 use native.Mathlib.Omega.{arith}
 use lib.ListN.{length, get_or, take, drop, set, length-append, take-append-drop}
-use lib.Seq.{length-take-le}
+use Rattle.std.specs.List.{sum_by}
+use Rattle.std.proofs.lemmas.List.Recursion.{is_sum_by}
 use Rattle.words.specs.Pieces.{write}
 use Rattle.words.proofs.Writes.{write-append, set-write, write-none}
 use Rattle.text.specs.Number.{digits}
 use Rattle.text.specs.Line.{parted, parted_width, line_text}
 use Rattle.text.proofs.Fields.{take_next}
-use Rattle.text.proofs.Digits.{digits-small, digits_more}
+use Rattle.text.proofs.Digits.{digits-small, digits_more, width_word}
 
 -- ---- one byte
 
 -- one byte after what was written
 write_byte : (l ys : List ℕ) (at e v : ℕ) → e ≡ at + length ys → set (write l at ys) e v ≡ write l at (ys ++ (v ∷ []))
 write_byte l ys at e v p = rw (p, set-write (write l at ys) (at + length ys) v) (write-append l at ys (v ∷ []))
-
--- the next byte of w
-pub put_next : (l w : List ℕ) (at i : ℕ) → i < length w → set (write l at (take i w)) (at + i) (get_or w i 0) ≡ write l at (take (i + 1) w)
-put_next l w at i h =
-    let k : length (take i w) ≡ i = length-take-le i w (omega arith) in
-    rw (take_next i w h) (write_byte l (take i w) at (at + i) (get_or w i 0) (rw k))
 
 -- ---- digits
 
@@ -109,14 +104,20 @@ parted-width sep (v ∷ vs) = ap suc (length-append (digits v) (parted sep vs) �
 pub line-width : (sep : ℕ) (w vs : List ℕ) → length (line_text sep w vs) ≡ length w + parted_width vs + 1
 line-width sep w vs = line-length sep w vs ∙ ap (λ (k : ℕ). length w + k + 1) (parted-width sep vs)
 
--- none of them
-pub width-none : (vs : List ℕ) → parted_width (take 0 vs) ≡ 0
-unfolding parted_width
-width-none vs = refl
+-- how many a number takes with the byte before it
+abbrev pub taken : ℕ → ℕ
+taken v = 1 + length (digits v)
 
--- one more
-pub width-next : (vs : List ℕ) (i : ℕ) → i < length vs → parted_width (take (i + 1) vs) ≡ parted_width (take i vs) + 1 + length (digits (get_or vs i 0))
-width-next vs i h = rw (← parted-width 0 (take (i + 1) vs), ← parted-width 0 (take i vs)) (parted-end 0 vs i h)
+-- all of them: the sum
+pub width-sum : (vs : List ℕ) → parted_width vs ≡ sum_by taken vs
+unfolding parted_width
+width-sum = is_sum_by parted_width taken refl (λ _ _. refl)
+
+-- at most eleven for each word
+pub width-most : (vs : List ℕ) → ((k : ℕ) → get_or vs k 0 < 4294967296) → parted_width vs ≤ length vs * 11
+unfolding parted_width
+width-most [] h = omega arith
+width-most (v ∷ vs) h = omega (arith, width-most vs (λ k. h (suc k)), width_word v (h 0))
 
 -- numbers one after another
 pub width-append : (xs ys : List ℕ) → parted_width (xs ++ ys) ≡ parted_width xs + parted_width ys

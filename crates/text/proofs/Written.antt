@@ -11,13 +11,14 @@ use lib.Dec.{ltb, eqb}
 use borrow.Author.Tests.{eq-eqb, ltb-false, eqb-true}
 use Rattle.words.specs.Bounds.{AtMost}
 use Rattle.words.proofs.Bounds.{at_most-at, at_most-none, at_most-cons, at_most-drop}
-use Rattle.text.specs.declared.Number.{Number}
-use Rattle.text.specs.declared.Number.TheVariants.{Value, Fault}
+use Rattle.std.specs.Prelude.{Result, Ok, Err}
+use Rattle.text.specs.declared.Fault.{Fault}
 use Rattle.text.specs.declared.Item.{Item}
-use Rattle.text.specs.declared.Item.TheVariants.{Found, Wrong}
+use Rattle.text.specs.Fault.{fault}
 use Rattle.text.specs.Field.{before, common}
 use Rattle.text.specs.Number.{number, digits, largest}
-use Rattle.text.specs.Line.{Got, good, bad, placed, item, prepend, next, numbers, line_of, parted}
+use Rattle.text.specs.Line.{Got, good, bad, found, placed, item, prepend, next, numbers, line_of, parted}
+use Rattle.text.proofs.Results.{found-same}
 use Rattle.text.proofs.Fields.{before-pass, before-first, before_split, common-append, common-was}
 use Rattle.text.proofs.Digits.{by-tens, digits-small, digits_more, number_digits, number-was}
 use Rattle.text.proofs.Lines.{numbers_more, numbers-end, line_of-whole}
@@ -40,7 +41,7 @@ module _ (sep : ℕ) (low : sep < 48) where
   before-parted (v ∷ vs) = before-first sep (digits v ++ parted sep vs)
 
   -- a number after sep, and then more numbers
-  item-parted : (at v : ℕ) (vs : List ℕ) → v ≤ largest → item sep at (sep ∷ (digits v ++ parted sep vs)) ≡ Found v (at + 1 + length (digits v))
+  item-parted : (at v : ℕ) (vs : List ℕ) → v ≤ largest → item sep at (sep ∷ (digits v ++ parted sep vs)) ≡ found v (at + 1 + length (digits v))
   unfolding item
   item-parted at v vs h =
       let f : before sep (digits v ++ parted sep vs) ≡ digits v = before-digits sep low v (parted sep vs) ∙ rw (before-parted vs) (append-nil (digits v)) in
@@ -53,7 +54,7 @@ module _ (sep : ℕ) (low : sep < 48) where
   numbers-parted (v ∷ vs) pre h =
       let a : (pre ++ (sep ∷ digits v)) ++ parted sep vs ≡ pre ++ (sep ∷ (digits v ++ parted sep vs)) = append_assoc pre (sep ∷ digits v) (parted sep vs) in
       let b : length (pre ++ (sep ∷ digits v)) ≡ length pre + 1 + length (digits v) = length-append pre (sep ∷ digits v) ∙ omega arith in
-      let q : item sep (length pre) (drop (length pre) (pre ++ (sep ∷ (digits v ++ parted sep vs)))) ≡ Found v (length pre + 1 + length (digits v))
+      let q : item sep (length pre) (drop (length pre) (pre ++ (sep ∷ (digits v ++ parted sep vs)))) ≡ found v (length pre + 1 + length (digits v))
       = rw drop-append_seam (item-parted (length pre) v vs (at_most-at largest (v ∷ vs) 0 h)) in
       let ih = numbers-parted vs (pre ++ (sep ∷ digits v)) (at_most-drop largest 1 (v ∷ vs) h) in
       numbers_more sep (length vs) (pre ++ (sep ∷ (digits v ++ parted sep vs))) (length pre) v (length pre + 1 + length (digits v)) q
@@ -75,18 +76,18 @@ pub record Placed (sep at v e : ℕ) (r : List ℕ) : Type 0 where
   pub small : v ≤ largest
 
 -- an item that was found was written so
-pub item-was : (sep at v e : ℕ) (r : List ℕ) → item sep at r ≡ Found v e → Placed sep at v e r
+pub item-was : (sep at v e : ℕ) (r : List ℕ) → item sep at r ≡ found v e → Placed sep at v e r
 unfolding item
 item-was sep at v e [] h = let z : ◌≡◌ {A = ℕ} 0 1 = cc in absurd (omega arith)
 item-was sep at v e (c ∷ cs) h = go (eqb c sep) refl (number (before sep cs)) refl h
   where
-    go : (t : Bool) → eqb c sep ≡ t → (g : Number) → number (before sep cs) ≡ g
-        → cond t (placed at (length (before sep cs)) g) (Wrong at) ≡ Found v e → Placed sep at v e (c ∷ cs)
+    go : (t : Bool) → eqb c sep ≡ t → (g : Result ℕ Fault) → number (before sep cs) ≡ g
+        → cond t (placed at (length (before sep cs)) g) (fault at) ≡ found v e → Placed sep at v e (c ∷ cs)
     go false q g n k = let z : ◌≡◌ {A = ℕ} 0 1 = cc in absurd (omega arith)
-    go true q (Fault j) n k = let z : ◌≡◌ {A = ℕ} 0 1 = cc in absurd (omega arith)
-    go true q (Value w) n k =
-        let a : w ≡ v = cc in
-        let b : at + 1 + length (before sep cs) ≡ e = cc in
+    go true q (Err f) n k = let z : ◌≡◌ {A = ℕ} 0 1 = cc in absurd (omega arith)
+    go true q (Ok w) n k =
+        let a : w ≡ v = (found-same k).0 in
+        let b : at + 1 + length (before sep cs) ≡ e = (found-same k).1 in
         let d = number-was (before sep cs) w n in
         let f : before sep cs ≡ digits v = d.0 ∙ ap digits a in
         let l : w ≤ 99999999 = d.1 in
@@ -121,22 +122,22 @@ numbers-was sep zero line at vs h = go (ltb at (length line)) refl vs h
     go false q (x ∷ xs) k = let z : ◌≡◌ {A = ℕ} 0 1 = cc in absurd (omega arith)
 numbers-was sep (suc n) line at vs h = go (numbers-was sep n line) (item sep at (drop at line)) refl h
   where
-    found : (v e : ℕ) → item sep at (drop at line) ≡ Found v e → (ws : List ℕ) → Was sep n line e ws → Was sep (suc n) line at (v ∷ ws)
-    found v e q ws w =
+    with_one : (v e : ℕ) → item sep at (drop at line) ≡ found v e → (ws : List ℕ) → Was sep n line e ws → Was sep (suc n) line at (v ∷ ws)
+    with_one v e q ws w =
         let p = item-was sep at v e (drop at line) q in
         (p.so ∙ ap (λ (l : List ℕ). sep ∷ (digits v ++ l)) (sym (placed-rest sep at v e line p) ∙ w.0), ap suc w.1, at_most-cons largest v ws p.small w.2)
 
-    after : (v e : ℕ) → item sep at (drop at line) ≡ Found v e → ((ws : List ℕ) → numbers sep n line e ≡ good ws → Was sep n line e ws)
+    after : (v e : ℕ) → item sep at (drop at line) ≡ found v e → ((ws : List ℕ) → numbers sep n line e ≡ good ws → Was sep n line e ws)
         → (g : Got) → numbers sep n line e ≡ g → (vs : List ℕ) → prepend v g ≡ good vs → Was sep (suc n) line at vs
     after v e q ih (bad j us) r vs k = let z : ◌≡◌ {A = ℕ} 0 1 = cc in absurd (omega arith)
     after v e q ih (good ws) r vs k =
         let a : v ∷ ws ≡ vs = cc in
-        subst (Was sep (suc n) line at) a (found v e q ws (ih ws r))
+        subst (Was sep (suc n) line at) a (with_one v e q ws (ih ws r))
 
     go : ((e : ℕ) (ws : List ℕ) → numbers sep n line e ≡ good ws → Was sep n line e ws)
-        → (g : Item) → item sep at (drop at line) ≡ g → next g (λ v e. prepend v (numbers sep n line e)) ≡ good vs → Was sep (suc n) line at vs
-    go ih (Wrong j) q k = let z : ◌≡◌ {A = ℕ} 0 1 = cc in absurd (omega arith)
-    go ih (Found v e) q k = after v e q (ih e) (numbers sep n line e) refl vs k
+        → (g : Result Item Fault) → item sep at (drop at line) ≡ g → next g (λ v e. prepend v (numbers sep n line e)) ≡ good vs → Was sep (suc n) line at vs
+    go ih (Err f) q k = let z : ◌≡◌ {A = ℕ} 0 1 = cc in absurd (omega arith)
+    go ih (Ok g) q k = after g.value g.end q (ih g.end) (numbers sep n line g.end) refl vs k
 
 -- and so was a line
 pub line_of-was : (sep : ℕ) (w : List ℕ) (n : ℕ) (line vs : List ℕ) → line_of sep w n line ≡ good vs → (line ≡ w ++ parted sep vs) × (length vs ≡ n) × AtMost largest vs

@@ -1,5 +1,10 @@
 -- The byte at fault: the first that no good text with the same beginning could have there. Assumes nothing.
-use Rattle.std.specs.Prelude.{ℕ, ◌+◌, ◌≤◌, ◌<◌, List, ◌++◌, length, take}
+use Rattle.std.specs.Prelude.{ℕ, ◌+◌, ◌≤◌, ◌<◌, List, ◌++◌, length, take, Result, Err}
+use Rattle.text.specs.declared.Fault.{Fault}
+
+-- the answer that byte j is at fault
+abbrev pub fault : {A : Type 0} → ℕ → Result A Fault
+fault j = Err (record { at = j })
 
 -- some good text begins with p
 abbrev pub Begins : (List ℕ → Type 0) → List ℕ → Type 0

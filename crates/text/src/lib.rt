@@ -5,147 +5,115 @@
 ghost use Rattle.std.specs.Prelude.{◌≡◌, ◌≤◌, ◌<◌, ◌+◌, ◌*◌, length, drop};
 ghost use Rattle.words.specs.Pieces.{write};
 ghost use Rattle.text.specs.Field.{before, common};
-ghost use Rattle.text.specs.Number.{number, digits, any_over};
+ghost use Rattle.text.specs.Number.{number, digits_after, digits, any_over};
 ghost use Rattle.text.specs.Line.{item, numbers, line_of, answer_of, taken_of, parted, parted_width, line_text};
 
-const LF: u8 = 10;
+// The byte that ends a line.
+pub const LF: u8 = b'\n';
 
-// What a field says as a number, or the byte at fault.
+// The byte that parts fields.
+pub const TAB: u8 = b'\t';
+
+// The first byte at fault of a field or a line, from 0.
 #[derive(Clone, Copy)]
-pub enum Number {
-    Value(u32),
-    Fault(usize),
+pub struct Fault {
+    pub at: usize,
 }
 
-// A number of a line and the byte after it, or the byte at fault.
+// A number of a line, and the byte after it.
 #[derive(Clone, Copy)]
-pub enum Item {
-    Found(u32, usize),
-    Wrong(usize),
-}
-
-// A line whose numbers stand in the lent buffer, or the byte at fault.
-#[derive(Clone, Copy)]
-pub enum Line {
-    Good,
-    Bad(usize),
+struct Item {
+    value: u32,
+    end: usize,
 }
 
 // The part of s up to the next b, as it stands; all of s where there is no b.
 pub fn cut(s: &[u8], b: u8) -> &[u8]
     ensures { result.now ≡ before b s.now }
 {
-    let mut i = 0;
-    while i < s.len() {
-        if s[i] == b {
-            return &s[..i];
-        }
-        i += 1;
+    match s.iter().position(|c| *c == b) {
+        Some(n) => &s[..n],
+        None => s,
     }
-    s
 }
 
 // The number that a field says: 1 to 8 digits, with no leading 0 save 0 alone.
-fn number_of(field: &[u8]) -> Number
+fn number_of(field: &[u8]) -> Result<u32, Fault>
     ensures { result ≡ number field.now }
 {
-    if field.len() == 0 {
-        return Number::Fault(0);
+    match field {
+        [] => Err(Fault { at: 0 }),
+        [b'0'] => Ok(0),
+        [b'0', ..] => Err(Fault { at: 1 }),
+        _ => digits_of(field),
     }
-    if field[0] == b'0' {
-        if field.len() == 1 {
-            return Number::Value(0);
-        }
-        return Number::Fault(1);
-    }
+}
+
+// The number that a field's digits say, at most eight of them.
+fn digits_of(field: &[u8]) -> Result<u32, Fault>
+    ensures { result ≡ digits_after 0 0 field.now }
+{
     let mut v: u32 = 0;
-    let mut i = 0;
-    while i < field.len() {
-        let c = field[i];
-        if c < b'0' {
-            return Number::Fault(i);
+    for (i, c) in field.iter().enumerate() {
+        // A value over 9,999,999 has eight digits already.
+        if !c.is_ascii_digit() || 9_999_999 < v {
+            return Err(Fault { at: i });
         }
-        if b'9' < c {
-            return Number::Fault(i);
-        }
-        if 9_999_999 < v {
-            return Number::Fault(i);
-        }
-        v = v * 10 + (c - b'0') as u32;
-        i += 1;
+        v = v * 10 + u32::from(*c - b'0');
     }
-    Number::Value(v)
+    Ok(v)
 }
 
 // How many bytes a line has in common with a word, from the front.
 fn in_common(line: &[u8], word: &[u8]) -> usize
     ensures { result ≡ common word.now line.now }
 {
-    let mut i = 0;
-    while i < word.len() {
-        if line.len() <= i {
-            return i;
-        }
-        if line[i] != word[i] {
-            return i;
-        }
-        i += 1;
-    }
-    i
+    line.iter().zip(word).take_while(|(c, x)| c == x).count()
 }
 
 // The number after byte `at` of a line, which has to be sep.
-fn item_at(line: &[u8], sep: u8, at: usize) -> Item
+fn item_at(line: &[u8], sep: u8, at: usize) -> Result<Item, Fault>
     ensures { result ≡ item sep at (drop at line.now) }
 {
-    if line.len() <= at {
-        return Item::Wrong(at);
+    if line.get(at).copied() != Some(sep) {
+        return Err(Fault { at });
     }
-    if line[at] != sep {
-        return Item::Wrong(at);
-    }
-    let b = at + 1;
-    let rest = &line[b..];
-    let field = cut(rest, sep);
-    match number_of(field) {
-        Number::Value(v) => Item::Found(v, b + field.len()),
-        Number::Fault(i) => Item::Wrong(b + i),
-    }
+    let start = at + 1;
+    let field = cut(&line[start..], sep);
+    let value = number_of(field).map_err(|fault| Fault {
+        at: start + fault.at,
+    })?;
+    Ok(Item {
+        value,
+        end: start + field.len(),
+    })
 }
 
 // As many numbers as out holds, from byte `from` of the line on, each after sep, and then the line's end.
-fn numbers_into(line: &[u8], sep: u8, from: usize, out: &mut [u32]) -> Line
+fn numbers_into(line: &[u8], sep: u8, from: usize, out: &mut [u32]) -> Result<(), Fault>
     ensures value { result ≡ answer_of (numbers sep (length out.old) line.now from) }
     ensures out_after { out.new ≡ write out.old 0 (taken_of (numbers sep (length out.old) line.now from)) }
 {
     let mut at = from;
-    let mut i = 0;
-    while i < out.len() {
-        match item_at(line, sep, at) {
-            Item::Wrong(j) => {
-                return Line::Bad(j);
-            }
-            Item::Found(v, e) => {
-                out[i] = v;
-                at = e;
-                i += 1;
-            }
-        }
+    for number in out.iter_mut() {
+        let item = item_at(line, sep, at)?;
+        *number = item.value;
+        at = item.end;
     }
     if at < line.len() {
-        return Line::Bad(at);
+        return Err(Fault { at });
     }
-    Line::Good
+    Ok(())
 }
 
 // A line of the word and as many numbers as out holds.
-pub fn word_line(line: &[u8], word: &[u8], sep: u8, out: &mut [u32]) -> Line
+pub fn word_line(line: &[u8], word: &[u8], sep: u8, out: &mut [u32]) -> Result<(), Fault>
     ensures value { result ≡ answer_of (line_of sep word.now (length out.old) line.now) }
     ensures out_after { out.new ≡ write out.old 0 (taken_of (line_of sep word.now (length out.old) line.now)) }
 {
-    let c = in_common(line, word);
-    if c < word.len() {
-        return Line::Bad(c);
+    let at = in_common(line, word);
+    if at < word.len() {
+        return Err(Fault { at });
     }
     numbers_into(line, sep, word.len(), out)
 }
@@ -154,24 +122,19 @@ pub fn word_line(line: &[u8], word: &[u8], sep: u8, out: &mut [u32]) -> Line
 pub fn any_over(vs: &[u32]) -> bool
     ensures { result ≡ any_over vs.now }
 {
-    let mut i = 0;
-    while i < vs.len() {
-        if 99_999_999 < vs[i] {
-            return true;
-        }
-        i += 1;
-    }
-    false
+    vs.iter().any(|v| 99_999_999 < *v)
 }
 
 // How many digits n has.
 fn width(n: u32) -> usize
-    ensures { result ≡ length (digits n) }
+    ensures value { result ≡ length (digits n) }
+    ensures upper_bound { result ≤ 10 }
 {
+    // A division for each digit: the library has no ilog10.
     let mut w = 1;
     let mut v = n;
     while 10 <= v {
-        v = v / 10;
+        v /= 10;
         w += 1;
     }
     w
@@ -183,13 +146,7 @@ pub fn widths(vs: &[u32]) -> usize
     ensures value { result ≡ parted_width vs.now }
     ensures upper_bound { result ≤ length vs.now * 11 }
 {
-    let mut n = 0;
-    let mut i = 0;
-    while i < vs.len() {
-        n = n + 1 + width(vs[i]);
-        i += 1;
-    }
-    n
+    vs.iter().map(|v| 1 + width(*v)).sum()
 }
 
 // Writes the bytes of w from byte `at` on; the byte after them.
@@ -198,13 +155,9 @@ fn put_bytes(out: &mut [u8], at: usize, w: &[u8]) -> usize
     ensures value { result ≡ at + length w.now }
     ensures out_after { out.new ≡ write out.old at w.now }
 {
-    let mut i = 0;
-    while i < w.len() {
-        let e = at + i;
-        out[e] = w[i];
-        i += 1;
-    }
-    at + i
+    let end = at + w.len();
+    out[at..end].copy_from_slice(w);
+    end
 }
 
 // Writes the digits of n from byte `at` on, each straight to its place; the byte after them.
@@ -213,13 +166,13 @@ fn put_number(out: &mut [u8], at: usize, n: u32) -> usize
     ensures value { result ≡ at + length (digits n) }
     ensures out_after { out.new ≡ write out.old at (digits n) }
 {
-    if n < 10 {
-        out[at] = b'0' + (n % 10) as u8;
-        return at + 1;
-    }
-    let e = put_number(out, at, n / 10);
-    out[e] = b'0' + (n % 10) as u8;
-    e + 1
+    let last = if n < 10 {
+        at
+    } else {
+        put_number(out, at, n / 10)
+    };
+    out[last] = b'0' + (n % 10) as u8;
+    last + 1
 }
 
 // Writes the numbers, each after sep; the byte after them.
@@ -229,11 +182,9 @@ fn put_numbers(out: &mut [u8], at: usize, sep: u8, vs: &[u32]) -> usize
     ensures out_after { out.new ≡ write out.old at (parted sep vs.now) }
 {
     let mut a = at;
-    let mut i = 0;
-    while i < vs.len() {
+    for v in vs {
         out[a] = sep;
-        a = put_number(out, a + 1, vs[i]);
-        i += 1;
+        a = put_number(out, a + 1, *v);
     }
     a
 }

@@ -1,14 +1,13 @@
 // Prints, one after another, what the lister prints for each sheet of standard input. A sheet stands after a line of four digits, its length.
 #![tactic(auto)]
 
-ghost use Rattle.std.specs.Prelude.{◌<◌, ◌≤◌, length};
+ghost use Rattle.std.specs.Prelude.{◌≡◌, ◌%◌, ◌<◌};
 
 use std::io;
-use std::io::Read;
 
 // The value of a decimal digit.
 fn digit(byte: u8) -> usize
-    ensures { result < 10 }
+    ensures { (result ≡ byte % 16 % 10) × (result < 10) }
 {
     let value = byte % 16 % 10;
     value as usize
@@ -21,14 +20,6 @@ fn length_of(line: [u8; 5]) -> usize
     digit(line[0]) * 1000 + digit(line[1]) * 100 + digit(line[2]) * 10 + digit(line[3])
 }
 
-// Reads the next n bytes.
-fn fill(input: &mut impl Read, sheet: &mut [u8], n: usize) -> io::Result<()>
-    requires { n ≤ length sheet.old }
-{
-    printer::read_full(input, &mut sheet[0..n])?;
-    Ok(())
-}
-
 // One sheet; false at the end of the input.
 fn next(rt: &HostRuntime) -> io::Result<bool> {
     let mut line = [0u8; 5];
@@ -38,17 +29,17 @@ fn next(rt: &HostRuntime) -> io::Result<bool> {
     }
     let n = length_of(line);
     let mut sheet = [0u8; 10000];
-    fill(&mut rt.stdin(), &mut sheet, n)?;
-    let printing = printer::print(&mut rt.stdout(), &sheet[0..n]);
-    printing.written?;
+    printer::read_full(&mut rt.stdin(), &mut sheet[..n])?;
+    printer::print(&mut rt.stdout(), &sheet[..n]).written?;
     Ok(true)
 }
 
-// A proved loop has to end, and nothing says that the input does: it counts down from more sheets than there are.
+// A proved loop has to end, and nothing says that the input does: it ends after more sheets than there are.
 fn main(rt: HostRuntime) -> io::Result<()> {
-    let mut turns: u32 = 1000000;
-    while turns > 0 && next(&rt)? {
-        turns -= 1;
+    for _ in 0..1_000_000 {
+        if !next(&rt)? {
+            break;
+        }
     }
     Ok(())
 }

@@ -9,7 +9,7 @@ use Rattle.words.specs.Pieces.{part, at, write}
 use Rattle.words.proofs.Pieces.{piece-end, piece-word}
 use Rattle.words.proofs.Turns.{turned, loop-starts, loop-turns, loop-long}
 use Rattle.words.proofs.Writes.{length_part, length-write, get_or-part, part-write-below, part-write-same}
-use Rattle.request.specs.Request.{Req, asked, width, arc_count}
+use Rattle.request.specs.Request.{Req, width, arc_count}
 use Rattle.request.specs.Shape.{cells}
 use Rattle.request.specs.Accepted.{Regular}
 use Rattle.request.proofs.Tops.{buckets-pos}
@@ -20,69 +20,62 @@ use Rattle.rounds.proofs.Node.{try_cell-length}
 use Rattle.rounds.proofs.Passing.{some-tried, quiet-cells}
 use Rattle.rounds.proofs.Ties.{Fair, Stays}
 use Rattle.tries.specs.declared.Frame.{Frame}
-use Rattle.tries.specs.Frame.{Framed, Apart, Ranged, Hinted, Fresh}
+use Rattle.tries.specs.Tries.{asked_by, Apart, Ranged, Hinted, AllQuiet, First}
 use Rattle.tries.proofs.Frames.{span-is}
 
--- how far a cell's words reach
-pub record Reach (s : Frame) (labels : List ℕ) (from to c : ℕ) : Type 0 where
-  pub fits : c * (s.d + 2) ≤ s.span
+-- how far the words of the first `high` cells reach
+pub record Reach (s : Frame) (labels : List ℕ) (from to high : ℕ) : Type 0 where
+  pub fits : high * s.w ≤ s.span
   pub small : s.span ≤ 6000000
-  pub few : c ≤ 1048576
-  pub wide : s.d ≤ 3
+  pub few : high ≤ s.cells
   pub below : from + s.span ≤ to
   pub inside : to + s.span ≤ length labels
 
-module _ (s : Frame) (arcs ladders labels : List ℕ) (from to a low high : ℕ) (f : Framed (asked s.request arcs) s ladders) (p : Apart (asked s.request arcs) labels from to a)
-    (r : Ranged (asked s.request arcs) (part labels from (span (asked s.request arcs))) low high) where
-  pub reach : (c : ℕ) → c ≤ high → Reach s labels from to c
-  reach c h =
-      let e = span-is (asked s.request arcs) s ladders f in
+-- the counts are no zeros
+pub counts_some : (s : Frame) (j : ℕ) → j < s.d - 1 → 0 < get_or s.counts j 0
+counts_some s j l = rw (s.framed.counts_are j (omega (arith, s.framed.d_is))) (buckets-pos (asked_by s) j)
+
+-- places below them are places to look from
+pub places-hint : (s : Frame) (places : List ℕ) → length places ≡ 2 → ((j : ℕ) → j < s.d - 1 → get_or places j 0 < get_or s.counts j 0) → Hinted (asked_by s) places
+places-hint s places e h = record { two = e; inside = λ j l. rw (sym (s.framed.counts_are j l)) (h j (omega (arith, s.framed.d_is))) }
+
+module _ (s : Frame) (labels : List ℕ) (from to a low high : ℕ) (p : Apart (asked_by s) labels from to a) (r : Ranged (asked_by s) (part labels from (span (asked_by s))) low high) where
+  pub reach : Reach s labels from to high
+  reach =
+      let e = span-is s.framed in
       record {
-        fits = (let m : c * (s.d + 2) ≤ s.cells * (s.d + 2) = mul-le-mul_right (s.d + 2) (omega (arith, r.inside, f.cells_is)) in omega (arith, f.sized.whole, ap (λ (w : ℕ). s.cells * w) f.sized.words));
-        small = f.sized.small;
-        few = omega (arith, r.inside, f.cells_is, f.sized.cells_small);
-        wide = f.sized.few;
+        fits = (let m : high * s.w ≤ s.cells * s.w = mul-le-mul_right s.w (omega (arith, r.inside, s.framed.cells_is)) in omega (arith, s.framed.sized.whole));
+        small = s.framed.sized.small;
+        few = omega (arith, r.inside, s.framed.cells_is);
         below = omega (arith, p.below);
         inside = omega (arith, p.inside);
       }
 
   -- the tail's block as it is lent
-  pub lent-block : part labels from (from + s.span - from) ≡ part labels from (span (asked s.request arcs))
+  pub lent-block : part labels from (from + s.span - from) ≡ part labels from (span (asked_by s))
   lent-block =
-      let e = span-is (asked s.request arcs) s ladders f in
-      let n : from + s.span - from ≡ span (asked s.request arcs) = omega arith in
+      let e = span-is s.framed in
+      let n : from + s.span - from ≡ span (asked_by s) = omega arith in
       ap (part labels from) n
 
-  pub block_room : high * (s.d + 2) ≤ length (part labels from (from + s.span - from))
-  block_room =
-      let h = reach high (le_refl high) in
-      let n : from + s.span - from ≡ s.span = omega arith in
-      omega (arith, h, length_part labels from (from + s.span - from) (omega (arith, h)))
-
   -- what is passed over in it
-  pub quiet-between : (c n : ℕ) → n ≤ high → Fresh s.d (part labels from (from + s.span - from)) c n high
-      → (k : ℕ) → c ≤ k → k < n → Quiet (step (asked s.request arcs) (at (width (asked s.request arcs)) (part labels from (span (asked s.request arcs))) k))
+  pub quiet-between : (c n : ℕ) → AllQuiet s.d (part labels from (from + s.span - from)) c n
+      → (k : ℕ) → c ≤ k → k < n → Quiet (step (asked_by s) (at (width (asked_by s)) (part labels from (span (asked_by s))) k))
   unfolding step
-  quiet-between c n h z k l m =
-      subst (λ (d : ℕ). Quiet (get_or (at (d + 2) (part labels from (span (asked s.request arcs))) k) d 0)) f.d_is
-      (subst (λ (F : List ℕ). Quiet (get_or (at (s.d + 2) F k) s.d 0)) lent-block (z.between k l m))
+  quiet-between c n z k l m =
+      subst (λ (d : ℕ). Quiet (get_or (at (d + 2) (part labels from (span (asked_by s))) k) d 0)) s.framed.d_is
+      (subst (λ (F : List ℕ). Quiet (get_or (at (s.d + 2) F k) s.d 0)) lent-block (z k l m))
 
   -- and what is found
-  pub full-found : (c n : ℕ) → Fresh s.d (part labels from (from + s.span - from)) c n high → (l : n < high) → (o : ℕ) → o ≡ n * s.w → get_or labels (from + o + s.d) 0 ≡ 0 → ⊥
-  full-found c n z l o e q =
-      z.full l
-      (let b = piece-end (s.d + 2) s.cells n (omega (arith, r.inside, f.cells_is)) in
+  pub full-found : (c n : ℕ) → First s.d (part labels from (from + s.span - from)) c high n → (o : ℕ) → o ≡ n * s.w → get_or labels (from + o + s.d) 0 ≡ 0 → ⊥
+  full-found c n z o e q =
+      z.full
+      (let b = piece-end (s.d + 2) s.cells n (omega (arith, r.inside, z.inside, s.framed.cells_is)) in
+      let f = s.framed.sized in
       piece-word (s.d + 2) (part labels from (from + s.span - from)) n s.d (omega arith)
-      ∙ get_or-part labels from (from + s.span - from) (n * (s.d + 2) + s.d) (omega (arith, f.sized.whole, ap (λ (w : ℕ). s.cells * w) f.sized.words))
-      ∙ ap (λ (k : ℕ). get_or labels k 0) (omega (arith, ap (λ (w : ℕ). n * w) f.sized.words))
+      ∙ get_or-part labels from (from + s.span - from) (n * (s.d + 2) + s.d) (omega (arith, f.whole, ap (λ (w : ℕ). s.cells * w) f.words))
+      ∙ ap (λ (k : ℕ). get_or labels k 0) (omega (arith, ap (λ (w : ℕ). n * w) f.words))
       ∙ q)
-
-  -- the counts are no zeros
-  pub counts_some : (j : ℕ) → j < s.d - 1 → 0 < get_or s.counts j 0
-  counts_some j l = rw (f.counts_are j (omega (arith, f.d_is))) (buckets-pos (asked s.request arcs) j)
-
-  pub places-hint : (places : List ℕ) → length places ≡ 2 → ((j : ℕ) → j < s.d - 1 → get_or places j 0 < get_or s.counts j 0) → Hinted (asked s.request arcs) places
-  places-hint places e h = record { two = e; inside = λ j l. rw (sym (f.counts_are j l)) (h j (omega (arith, f.d_is))) }
 
 module _ (R : Req) (xs : List ℕ) (from to a low high : ℕ) where
   -- what a try of cell k makes of the two blocks, and the head's block when the cells before c are tried

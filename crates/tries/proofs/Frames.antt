@@ -18,32 +18,32 @@ use Rattle.request.specs.Shape.{buckets, cells, cell, position, top, ladder, lad
 use Rattle.request.proofs.Ladders.{ladders-length, ladders-part, ladder-inside, in-ladder, place-position}
 use Rattle.rounds.specs.Rounds.{span}
 use Rattle.labels.specs.Words.{offset, ladder_in, Seeks, FoundAt}
-use Rattle.tries.specs.declared.Frame.{Frame}
-use Rattle.tries.specs.Frame.{Framed, Hinted}
+use Rattle.tries.specs.Frame.{Framed}
+use Rattle.tries.specs.Tries.{Hinted}
 
-module _ (R : Req) (s : Frame) (buffer : List ℕ) (f : Framed R s buffer) where
-  pub width_is : s.w ≡ width R
-  width_is = f.sized.words ∙ ap (λ (d : ℕ). d + 2) f.d_is
+module _ {R : Req} {buffer : List ℕ} {d w n m : ℕ} {counts : List ℕ} (f : Framed R buffer d w n m counts) where
+  pub width_is : w ≡ width R
+  width_is = f.sized.words ∙ ap (λ (k : ℕ). k + 2) f.d_is
 
-  pub span-is : s.span ≡ span R
+  pub span-is : m ≡ span R
   span-is = f.sized.whole ∙ ap₂ (λ (x y : ℕ). x * y) f.cells_is width_is
 
   -- ---- labels and arcs in their buffers
 
-  pub label_is : (ls : List ℕ) (from c : ℕ) → c < cells R → part ls (from + c * s.w) s.w ≡ at (width R) (part ls from (span R)) c
+  pub label_is : (ls : List ℕ) (from c : ℕ) → c < cells R → part ls (from + c * w) w ≡ at (width R) (part ls from (span R)) c
   unfolding at
   label_is ls from c h =
       ap (λ (w : ℕ). part ls (from + c * w) w) width_is ∙ sym (part-part ls from (span R) (c * width R) (width R) (piece-end (width R) (cells R) c h))
 
-  pub arc-is : (a : ℕ) → part R.arcs (a * s.w) s.w ≡ arc R a
+  pub arc-is : (a : ℕ) → part R.arcs (a * w) w ≡ arc R a
   unfolding arc at
   arc-is a = ap (λ (w : ℕ). part R.arcs (a * w) w) width_is
 
   -- ---- ladders in theirs
 
-  pub offset-is : (j : ℕ) → j ≤ R.graded → offset s.counts j ≡ ladder_at R j
+  pub offset-is : (j : ℕ) → j ≤ R.graded → offset counts j ≡ ladder_at R j
   unfolding offset ladder_at
-  offset-is j h = total_ext (λ i. get_or s.counts i 0 + 1) (λ i. buckets R i + 1) j (λ i l. ap (λ (n : ℕ). n + 1) (f.counts_are i (le_trans l h)))
+  offset-is j h = total_ext (λ i. get_or counts i 0 + 1) (λ i. buckets R i + 1) j (λ i l. ap (λ (n : ℕ). n + 1) (f.counts_are i (le_trans l h)))
 
   pub buffer-room : ladder_at R R.graded ≤ length buffer
   buffer-room =
@@ -52,7 +52,7 @@ module _ (R : Req) (s : Frame) (buffer : List ℕ) (f : Framed R s buffer) where
       let n = ladders-length R in
       omega arith
 
-  pub ladder-is : (j : ℕ) → j < R.graded → ladder_in s.counts buffer j ≡ ladder R j
+  pub ladder-is : (j : ℕ) → j < R.graded → ladder_in counts buffer j ≡ ladder R j
   unfolding ladder_in
   ladder-is j l =
       let n = ladders-length R in
@@ -63,31 +63,31 @@ module _ (R : Req) (s : Frame) (buffer : List ℕ) (f : Framed R s buffer) where
       ∙ ap (λ (x : List ℕ). part x (ladder_at R j) (buckets R j + 1)) f.ladders_are
       ∙ ladders-part R j l
 
-  module _ (graded-is : R.graded ≡ s.d - 1) where
+  module _ (graded-is : R.graded ≡ d - 1) where
     -- ---- the counts make the cells
 
-    pub volume_is : volume (λ i. get_or s.counts i 0) (s.d - 1) ≡ s.cells
+    pub volume_is : volume (λ i. get_or counts i 0) (d - 1) ≡ n
     unfolding cells
     volume_is =
-        ap (volume (λ i. get_or s.counts i 0)) (sym graded-is)
-        ∙ volume-ext (λ i. get_or s.counts i 0) (buckets R) R.graded f.counts_are
+        ap (volume (λ i. get_or counts i 0)) (sym graded-is)
+        ∙ volume-ext (λ i. get_or counts i 0) (buckets R) R.graded f.counts_are
         ∙ sym f.cells_is
 
-    volume-few : (k : ℕ) → k ≤ s.d - 1 → volume (λ i. get_or s.counts i 0) k ≤ 16777216
+    volume-few : (k : ℕ) → k ≤ d - 1 → volume (λ i. get_or counts i 0) k ≤ 16777216
     volume-few k h =
         let t = f.sized.few in
-        let few : (j : ℕ) → j < k → get_or s.counts j 0 ≤ 4096 = λ j l. rw (f.counts_are j (omega arith)) (f.fits.buckets_few j (omega arith)) in
-        le_trans (volume-pow (λ i. get_or s.counts i 0) 4096 k few) (pow-le-pow_right {n = 4096} (lit< tt) {i = k} {j = 2} (omega arith))
+        let few : (j : ℕ) → j < k → get_or counts j 0 ≤ 4096 = λ j l. rw (f.counts_are j (omega arith)) (f.fits.buckets_few j (omega arith)) in
+        le_trans (volume-pow (λ i. get_or counts i 0) 4096 k few) (pow-le-pow_right {n = 4096} (lit< tt) {i = k} {j = 2} (omega arith))
 
     -- ---- costs under the ladder tops can be looked for
 
-    module _ (cand hint : List ℕ) (long : s.d - 1 ≤ length cand) (hinted : Hinted R hint) (under : (j : ℕ) → j < R.graded → get_or cand j 0 ≤ top R j) where
-      pub can-seek : Seeks s.counts (s.d - 1) buffer cand hint
+    module _ (cand hint : List ℕ) (long : d - 1 ≤ length cand) (hinted : Hinted R hint) (under : (j : ℕ) → j < R.graded → get_or cand j 0 ≤ top R j) where
+      pub can-seek : Seeks counts (d - 1) buffer cand hint
       can-seek = record {
         few = (let t = f.sized.few in omega arith);
         two = hinted.two;
         long = long;
-        room = rw (offset-is (s.d - 1) (omega arith)) (subst (λ (n : ℕ). ladder_at R n ≤ length buffer) graded-is buffer-room);
+        room = rw (offset-is (d - 1) (omega arith)) (subst (λ (n : ℕ). ladder_at R n ≤ length buffer) graded-is buffer-room);
         small = volume-few;
         counts_few = λ j l. rw (f.counts_are j (omega arith)) (f.fits.buckets_few j (omega arith));
         hinted = λ j l. rw (f.counts_are j (omega arith)) (hinted.inside j (omega arith));
@@ -95,16 +95,16 @@ module _ (R : Req) (s : Frame) (buffer : List ℕ) (f : Framed R s buffer) where
       }
 
     -- and what is found is the cell
-    module _ (cand places : List ℕ) (n : ℕ) (found : FoundAt s.counts (s.d - 1) buffer cand n places) where
+    module _ (cand places : List ℕ) (place : ℕ) (found : FoundAt counts (d - 1) buffer cand place places) where
       place_is : (j : ℕ) → j < R.graded → get_or places j 0 ≡ position R j (get_or cand j 0)
       place_is j l = place-position R f.regular j (get_or cand j 0) (get_or places j 0) l (subst (λ (x : List ℕ). Slot x (get_or cand j 0) (get_or places j 0)) (ladder-is j l) (found.slot j (omega arith)))
 
-      pub cell_is : n ≡ cell R cand
+      pub cell_is : place ≡ cell R cand
       unfolding cell
       cell_is =
           found.number
-          ∙ ap (radix (λ i. get_or s.counts i 0) (λ i. get_or places i 0)) (sym graded-is)
-          ∙ radix-base (λ i. get_or s.counts i 0) (buckets R) (λ i. get_or places i 0) R.graded f.counts_are
+          ∙ ap (radix (λ i. get_or counts i 0) (λ i. get_or places i 0)) (sym graded-is)
+          ∙ radix-base (λ i. get_or counts i 0) (buckets R) (λ i. get_or places i 0) R.graded f.counts_are
           ∙ radix-ext (buckets R) (λ i. get_or places i 0) (λ j. position R j (get_or cand j 0)) R.graded place_is
 
       pub found-hints : Hinted R places

@@ -4,3 +4,4 @@ pub mod Trying
 pub mod Digits
 pub mod Fresh
 pub mod Arcs
+pub mod Nexts

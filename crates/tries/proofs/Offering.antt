@@ -7,10 +7,10 @@ use native.Mathlib.Omega.{arith}
 use lib.ListN.{length, take, drop}
 use Rattle.words.specs.Pieces.{part, at, put, write}
 use Rattle.words.proofs.Choices.{cond_cases}
-use Rattle.words.proofs.Writes.{length_part, part-part, lent-in, length-write}
+use Rattle.words.proofs.Writes.{length_part, part-part, lent-in}
 use Rattle.labels.specs.Words.{wins_over}
 use Rattle.rounds.specs.Label.{label, sum}
-use Rattle.tries.specs.Frame.{offered, extended}
+use Rattle.tries.specs.Tries.{offered, extended}
 
 -- what `place` leaves, from its part of the words
 pub offer-law : (d : ℕ) (cand ls ys : List ℕ) (to span cell r k : ℕ) → r ≡ cell * (d + 2) → r + (d + 2) ≤ span → to + span ≤ length ls → length cand ≡ d + 2 → k ≡ d + 2
@@ -30,11 +30,6 @@ offer-law d cand ls ys to span cell r k e-r fits room long e-k e-ys =
     lent-in ls to span r k ys size (omega arith) room
     ∙ ap (λ (l : List ℕ). write ls to (write B r l)) new
     ∙ ap (λ (q : ℕ). write ls to (write B q (cond (wins_over d cand (part B q (d + 2))) cand (part B q (d + 2))))) e-r
-
--- so a block keeps its length
-pub offered-length : (d : ℕ) (B : List ℕ) (c : ℕ) (l : List ℕ) → length (offered d B c l) ≡ length B
-unfolding offered put
-offered-length d B c l = length-write B (c * (d + 2)) _
 
 -- what `add_costs` makes, from its parts of the buffers
 pub made-law : (d w at a c : ℕ) (labels arcs ys : List ℕ) → ys ≡ label (sum (take d (part labels at (at + w - at))) (drop 2 (part arcs (a * w) (a * w + w - a * w)))) (a + 3) c

@@ -1,8 +1,8 @@
 -- `keep_costs`. The loop's invariant: k costs are written. Assumes nothing.
 use mathlib.Core.Path.{◌≡◌, refl, sym, ap, ◌∙◌}
-use Prim.Native.Nat.{ℕ, ◌+◌, zero-le}
+use Prim.Native.Nat.{ℕ, ◌+◌}
 use mathlib.Core.List.{List}
-use lib.ListN.{set, length-set}
+use lib.ListN.{length-set}
 use Rattle.words.specs.Pieces.{part, write}
 use Rattle.words.proofs.Writes.{write-part}
 use Rattle.keeping.proofs.Keeping.{one-cost, two-more}
@@ -14,26 +14,19 @@ none : (xs : List ℕ) (at to : ℕ) → xs ≡ write xs to (part xs at 0)
 none xs at to = sym (write-part xs to 0)
 
 pub loop-k-init : goal.loop-k-init
-loop-k-init c = let a = c.args in (zero-le, none a.labels.now a.at a.to, refl)
+loop-k-init c = let a = c.args in (none a.labels.now a.at a.to, refl)
 
 pub loop-k-preserved : goal.loop-k-preserved
 loop-k-preserved c = let a = c.args in
     let p = c.requires in
     let l = c.loop-k in (
-      omega arith,
-      one-cost a.labels.now a.at a.to a.d p.0 p.1 l.labels l.k c.loop-k-test.true l.invariant.1,
-      length-set l.labels (a.to + l.k) _ ∙ l.invariant.2,
+      one-cost a.labels.now a.at a.to a.d p.0 p.1 l.labels l.k c.loop-k-test.true l.invariant.0,
+      length-set l.labels (a.to + l.k) _ ∙ l.invariant.1,
     )
-
-pub bounds-labels-to-3 : goal.bounds-labels-to-3
-bounds-labels-to-3 c = let a = c.args in omega (arith, length-set c.loop-k.labels (a.to + a.d) 2)
-
-pub shape_of-labels : goal.shape_of-labels
-shape_of-labels c = let l = c.loop-k in length-set (set l.labels _ _) _ _ ∙ length-set l.labels _ _ ∙ l.invariant.2
 
 pub returns : goal.returns
 returns c = let a = c.args in
     let p = c.requires in
     let l = c.loop-k in
     let e : l.k ≡ a.d = omega arith in
-    two-more a.labels.now a.at a.to a.d p.0 p.1 l.labels (l.invariant.1 ∙ ap (λ (n : ℕ). write a.labels.now a.to (part a.labels.now a.at n)) e)
+    two-more a.labels.now a.at a.to a.d p.0 p.1 l.labels (l.invariant.0 ∙ ap (λ (n : ℕ). write a.labels.now a.to (part a.labels.now a.at n)) e)

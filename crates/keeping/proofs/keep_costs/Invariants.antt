@@ -1,12 +1,8 @@
 -- `keep_costs`. The loop's invariant: k costs are written. Assumes nothing.
 use mathlib.Core.Path.{◌≡◌}
-use Prim.Native.Nat.{◌-◌, ◌≤◌}
 use lib.ListN.{length}
 use Rattle.words.specs.Pieces.{part, write}
 use Rattle.keeping.proofs.keep_costs.Given as goal
 
 abbrev pub invariant-loop-k : goal.invariant-loop-k
-invariant-loop-k l = (l.k ≤ l.d) × (l.labels ≡ write l.initial.labels l.to (part l.initial.labels l.at l.k)) × (length l.labels ≡ length l.initial.labels)
-
-abbrev pub decreases-loop-k : goal.decreases-loop-k
-decreases-loop-k l = l.d - l.k
+invariant-loop-k l = (l.labels ≡ write l.initial.labels l.to (part l.initial.labels l.at l.k)) × (length l.labels ≡ length l.initial.labels)

@@ -1,9 +1,8 @@
 -- `find_cell`. The loop's invariant: the criteria before j are found (`Upto`). Assumes nothing.
-use mathlib.Core.Path.{◌≡◌, sym, ap, ◌∙◌, subst}
+use mathlib.Core.Path.{sym, subst}
 use Prim.Native.Nat.{ℕ}
 use mathlib.Core.List.{List}
 use lib.ListN.{get_or}
-use Rattle.words.specs.Radix.{radix}
 use Rattle.fences.specs.Answer.{Bracket}
 use Rattle.labels.proofs.Finding.{none_yet, Here, here, lent-ladder, lent_length, found_lt, one_more}
 use native.Mathlib.Omega.{arith}
@@ -37,30 +36,12 @@ offset_bounds-ladders-at c = omega (arith, known (goal.at.offset_bounds-ladders-
 pub slice_bounds-seek-end : goal.slice_bounds-seek-end
 slice_bounds-seek-end c = omega (arith, known (goal.at.slice_bounds-seek-end c).In-loop-j)
 
-pub offset_bounds-cand-j : goal.offset_bounds-cand-j
-offset_bounds-cand-j c = omega (arith, known (goal.at.offset_bounds-cand-j c).In-loop-j)
-
-pub bounds-cand-j : goal.bounds-cand-j
-bounds-cand-j c = omega (arith, known (goal.at.bounds-cand-j c).In-loop-j)
-
-pub offset_bounds-places-j : goal.offset_bounds-places-j
-offset_bounds-places-j c = omega (arith, known (goal.at.offset_bounds-places-j c).In-loop-j)
-
-pub bounds-places-j : goal.bounds-places-j
-bounds-places-j c = omega (arith, known (goal.at.bounds-places-j c).In-loop-j)
-
 pub seek-found-requires : goal.seek-found-requires
 seek-found-requires c = let a = c.args in
     let l = c.loop-j in
     let t = c.loop-j-test.true in
     let e = lent-ladder a.counts a.graded a.ladders.now a.cand.now a.places.now c.requires l.places l.cell l.at l.j l.invariant t in
     let n = lent_length a.counts a.graded a.ladders.now a.cand.now a.places.now c.requires l.places l.cell l.at l.j l.invariant t in record { bracket = subst (λ (x : List ℕ). Bracket x (get_or a.cand.now l.j 0) 0) (sym e) (c.requires.inside l.j t); hint_in_bounds = omega (arith, n, l.invariant.below l.j t) }
-
-pub offset_bounds-places-j-in-loop-j : goal.offset_bounds-places-j-in-loop-j
-offset_bounds-places-j-in-loop-j c = omega (arith, known (goal.at.offset_bounds-places-j-in-loop-j c).In-loop-j)
-
-pub bounds-places-j-in-loop-j : goal.bounds-places-j-in-loop-j
-bounds-places-j-in-loop-j c = omega (arith, known (goal.at.bounds-places-j-in-loop-j c).In-loop-j)
 
 pub overflow_mul-cell : goal.overflow_mul-cell
 overflow_mul-cell c = omega (arith, known (goal.at.overflow_mul-cell c).In-loop-j)
@@ -71,30 +52,7 @@ overflow_add-cell c = let a = c.args in
     let less = found_lt a.counts a.graded a.ladders.now a.cand.now a.places.now c.requires l.places l.cell l.at l.j l.invariant c.loop-j-test.true c.seek-found.result c.seek-found.ensures in
     omega (arith, known (goal.at.overflow_add-cell c).In-loop-j, less)
 
-pub overflow_add-j : goal.overflow_add-j
-overflow_add-j c = omega (arith, known (goal.at.overflow_add-j c).In-loop-j)
-
-pub loop-j-smaller : goal.loop-j-smaller
-loop-j-smaller c = omega (arith, c.loop-j-test.true)
-
 pub loop-j-preserved : goal.loop-j-preserved
 loop-j-preserved c = let a = c.args in
     let l = c.loop-j in
     one_more a.counts a.graded a.ladders.now a.cand.now a.places.now c.requires l.places l.cell l.at l.j l.invariant c.loop-j-test.true c.seek-found.result c.seek-found.ensures
-
-pub shape_of-places : goal.shape_of-places
-shape_of-places c = omega (arith, c.loop-j.invariant.two, c.requires.two)
-
-pub returns : goal.returns
-returns c = let a = c.args in
-    let l = c.loop-j in
-    let u = l.invariant in
-    let e : l.j ≡ a.graded = omega (arith, u.inside) in record {
-      found_at = record {
-        two = u.two;
-        slot = λ j m. u.slots j (rw e m);
-        number = u.number ∙ ap (radix (λ i. get_or a.counts i 0) (λ i. get_or l.places i 0)) e;
-        below = u.below;
-      };
-      same_from = λ j h. u.later j (omega (arith, e));
-    }

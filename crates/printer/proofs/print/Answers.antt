@@ -6,4 +6,4 @@ use Rattle.printer.proofs.print.Goals as goal
 pub returns-clause-written : goal.returns-clause-written
 returns-clause-written g c =
     let front = front-written c.print_out-length.new.text _ (printout_of c.args.sheet.now) c.print_out-length.result c.print_out-length.ensures.text_after c.print_out-length.ensures.value.0 (omega (arith, c.print_out-length.ensures.value)) in
-    rw front at c.emit-written.ensures
+    rw front at c.write_all-written.ensures.bytes

@@ -14,23 +14,11 @@ products s =
     let layer = mul-le-mul {n₂ = 64} {m₂ = 16777216} s.requires.0 cells in
     (cells, layer, mul-le-mul {n₂ = 64} {m₂ = 1073741824} (omega (arith, s.requires.1)) layer)
 
-pub overflow_mul-cells : goal.overflow_mul-cells
-overflow_mul-cells c = omega (arith, products (goal.at.overflow_mul-cells c).Start)
-
-pub overflow_mul-layer : goal.overflow_mul-layer
-overflow_mul-layer c = omega (arith, products (goal.at.overflow_mul-layer c).Start)
-
 pub overflow_mul-labels : goal.overflow_mul-labels
 overflow_mul-labels c = omega (arith, products (goal.at.overflow_mul-labels c).Start)
 
 pub returns-then-labels-gt1048576 : goal.returns-then-labels-gt1048576
 returns-then-labels-gt1048576 c = let a = c.args in sym (too_many a.q.nodes a.q.hops a.b1 a.b2 c.if-labels-gt1048576.true)
-
-pub overflow_cast-result : goal.overflow_cast-result
-overflow_cast-result c = omega (arith, products (goal.at.overflow_cast-result c).Start)
-
-pub overflow_cast-result-2 : goal.overflow_cast-result-2
-overflow_cast-result-2 c = omega (arith, products (goal.at.overflow_cast-result-2 c).Start)
 
 pub returns : goal.returns
 returns c = let a = c.args in sym (in-shape a.q.nodes a.q.hops a.b1 a.b2 c.if-labels-gt1048576.false)

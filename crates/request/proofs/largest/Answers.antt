@@ -1,60 +1,43 @@
--- `largest`. The loop's invariant: `most` is the largest among the first a arcs. Assumes nothing.
+-- `largest`: the arc that comes is the piece at its place. Assumes nothing.
 use mathlib.Core.Path.{◌≡◌, sym, ap, ◌∙◌}
-use Prim.Native.Nat.{ℕ, ◌+◌, ◌*◌, ◌/◌, ◌<◌, zero-le, max}
+use Prim.Native.Nat.{ℕ, ◌+◌, ◌*◌, max}
 use mathlib.Core.List.{List}
-use native.Mathlib.Nat.{div-le_self}
-use lib.ListN.{length, get_or}
+use lib.ListN.{length, get_or, drop}
+use Rattle.std.proofs.Common.{rules}
+use Rattle.std.specs.Slice.Iter.{chunks_exact_rest, chunks_exact_size}
+use Rattle.std.proofs.lemmas.List.{length_push}
 use Rattle.words.specs.Pieces.{at}
 use Rattle.words.proofs.Loops.{up_to-zero, up_to-next}
-use Rattle.words.proofs.Pieces.{quotient-end, piece-word}
 use Rattle.request.specs.Shape.{largest_of}
-use native.Mathlib.Omega.{arith}
+use Rattle.request.proofs.Chunks.{none_taken, chunk-at, left-next}
 use Rattle.request.proofs.largest.Goals as goal
 
 -- one arc more
-next : (w : ℕ) (arcs : List ℕ) (a j most : ℕ) → j + 2 < w → most ≡ largest_of w arcs a j → max most (get_or arcs (a * w + (j + 2)) 0) ≡ largest_of w arcs (a + 1) j
+next : (w : ℕ) (arcs arc : List ℕ) (a j most : ℕ) → arc ≡ at w arcs a → most ≡ largest_of w arcs a j → max most (get_or arc (j + 2) 0) ≡ largest_of w arcs (a + 1) j
 unfolding largest_of
-next w arcs a j most h e =
-    ap (max most) (sym (piece-word w arcs a (j + 2) h)) ∙ ap (λ (z : ℕ). max z (get_or (at w arcs a) (j + 2) 0)) e
+next w arcs arc a j most h e =
+    ap (λ (x : List ℕ). max most (get_or x (j + 2) 0)) h ∙ ap (λ (z : ℕ). max z (get_or (at w arcs a) (j + 2) 0)) e
     ∙ sym (up_to-next (λ a x. max x (get_or (at w arcs a) (j + 2) 0)) 0 a)
 
 none : (w : ℕ) (arcs : List ℕ) (j : ℕ) → 0 ≡ largest_of w arcs 0 j
 unfolding largest_of
 none w arcs j = sym (up_to-zero (λ a x. max x (get_or (at w arcs a) (j + 2) 0)) 0)
 
-pub loop-a-init : goal.loop-a-init
-loop-a-init c = let s = c.args in (zero-le, none s.w s.arcs.now s.j)
+pub loop-arc-init : goal.loop-arc-init
+loop-arc-init c = let s = c.args in
+    let i = c.chunks_exact-arc-items in
+    let same = c.into_iter-arc-iterator.ensures.into_iter_gives in
+    (none s.w s.arcs.now s.j, ap chunks_exact_size same ∙ i.ensures.size, ap chunks_exact_rest same ∙ i.ensures.rest ∙ none_taken s.w s.arcs.now)
 
-pub overflow_mul-a : goal.overflow_mul-a
-overflow_mul-a c = let s = c.args in
-    let h = quotient-end s.w (length s.arcs.now) c.loop-a.a c.loop-a-test.true in
-    omega arith
-
-pub overflow_add-a : goal.overflow_add-a
-overflow_add-a c = let s = c.args in
-    let h = quotient-end s.w (length s.arcs.now) c.loop-a.a c.loop-a-test.true in
-    omega arith
-
-pub offset_bounds-arcs-a : goal.offset_bounds-arcs-a
-offset_bounds-arcs-a c = let s = c.args in
-    let h = quotient-end s.w (length s.arcs.now) c.loop-a.a c.loop-a-test.true in
-    omega arith
-
-pub bounds-arcs-a : goal.bounds-arcs-a
-bounds-arcs-a c = let s = c.args in
-    let h = quotient-end s.w (length s.arcs.now) c.loop-a.a c.loop-a-test.true in
-    omega arith
-
-pub overflow_add-a-in-loop-a : goal.overflow_add-a-in-loop-a
-overflow_add-a-in-loop-a c = let s = c.args in omega (arith, div-le_self (length s.arcs.now) s.w)
-
-pub loop-a-preserved : goal.loop-a-preserved
-loop-a-preserved c = let s = c.args in
-    let l = c.loop-a in
-    (omega arith, c.larger-most.ensures ∙ next s.w s.arcs.now l.a s.j l.most c.requires.0 l.invariant.1)
-
-pub returns : goal.returns
-returns c = let s = c.args in
-    let l = c.loop-a in
-    let e : l.a ≡ length s.arcs.now / s.w = omega arith in
-    l.invariant.1 ∙ ap (λ (k : ℕ). largest_of s.w s.arcs.now k s.j) e
+pub loop-arc-preserved : goal.loop-arc-preserved
+loop-arc-preserved c = let s = c.args in
+    let l = c.loop-arc in
+    let step = c.in-Some.ensures.steps in
+    let here = chunk-at s.w (length l.yielded) s.arcs.now (chunks_exact_rest l.arc-iterator) c.in-Some.arc.now (chunks_exact_rest c.next.new.self) l.invariant.2 step.1.0 (step.1.1 ∙ l.invariant.1) in
+    let on = left-next s.w (length l.yielded) s.arcs.now (chunks_exact_rest l.arc-iterator) c.in-Some.arc.now (chunks_exact_rest c.next.new.self) l.invariant.2 step.1.0 (step.1.1 ∙ l.invariant.1) in
+    let more = length_push l.yielded c.in-Some.arc in
+    let larger : c.max-most.result ≡ max l.most (get_or c.in-Some.arc.now (s.j + 2) 0) = search rules in (
+      larger ∙ next s.w s.arcs.now c.in-Some.arc.now (length l.yielded) s.j l.most here l.invariant.0 ∙ ap (λ (n : ℕ). largest_of s.w s.arcs.now n s.j) (sym more),
+      step.0 ∙ l.invariant.1,
+      on ∙ ap (λ (n : ℕ). drop (n * s.w) s.arcs.now) (sym more),
+    )

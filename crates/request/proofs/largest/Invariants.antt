@@ -1,12 +1,13 @@
--- `largest`. The loop's invariant: `most` is the largest among the first a arcs. Assumes nothing.
+-- `largest`. The loop's invariant: `most` is the largest among the arcs so far, and the words of the others are left. Assumes nothing.
 use mathlib.Core.Path.{◌≡◌}
-use Prim.Native.Nat.{◌-◌, ◌/◌, ◌≤◌}
-use lib.ListN.{length}
+use Prim.Native.Nat.{◌*◌}
+use lib.ListN.{length, drop}
+use Rattle.std.specs.Slice.Iter.{chunks_exact_rest, chunks_exact_size}
 use Rattle.request.specs.Shape.{largest_of}
 use Rattle.request.proofs.largest.Given as goal
 
-abbrev pub invariant-loop-a : goal.invariant-loop-a
-invariant-loop-a l = (l.a ≤ length l.arcs / l.w) × (l.most ≡ largest_of l.w l.arcs l.a l.j)
-
-abbrev pub decreases-loop-a : goal.decreases-loop-a
-decreases-loop-a l = length l.arcs / l.w - l.a
+abbrev pub invariant-loop-arc : goal.invariant-loop-arc
+invariant-loop-arc l =
+    (l.most ≡ largest_of l.w l.arcs (length l.yielded) l.j)
+    × (chunks_exact_size l.arc-iterator ≡ l.w)
+    × (chunks_exact_rest l.arc-iterator ≡ drop (length l.yielded * l.w) l.arcs)

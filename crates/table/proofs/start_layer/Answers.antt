@@ -1,74 +1,50 @@
--- `start_layer`. The loop's invariant: the blocks before v stand at the front, and end at `at`. Assumes nothing.
-use mathlib.Core.Path.{◌≡◌, sym, ap, ◌∙◌}
-use Prim.Native.Nat.{ℕ, ◌+◌, ◌-◌, ◌*◌, ◌≤◌, ◌<◌, zero-le}
-use native.Mathlib.Nat.{zero-mul, add-mul, one-mul}
+-- `start_layer`: zeros, and one start in the source's block. Assumes nothing.
+use mathlib.Core.Path.{◌≡◌, ap, ap₂, ◌∙◌}
+use Prim.Native.Nat.{ℕ, ◌+◌, ◌*◌, ◌≤◌, ◌<◌}
+use native.Mathlib.Nat.{mul-le-mul_right, one-mul}
+use native.Mathlib.Omega.{arith}
 use mathlib.Core.List.{List}
-use lib.ListN.{length}
+use lib.ListN.{length-drop, length-take}
 use lib.Dec.{eqb}
 use Rattle.words.specs.Pieces.{write, join}
-use Rattle.words.proofs.Pieces.{piece-end, join-zero}
-use Rattle.words.proofs.Writes.{length_part, length-write, write-part}
+use Rattle.words.proofs.Pieces.{piece-end}
+use Rattle.request.specs.Request.{width}
+use Rattle.rounds.specs.Rounds.{span, start_layer}
+use Rattle.rounds.proofs.Start.{cells-pos}
+use Rattle.tries.specs.declared.Frame.{Frame}
+use Rattle.tries.specs.Tries.{asked_by}
+use Rattle.tries.proofs.Frames.{span-is}
 use Rattle.table.specs.Build.{start_words}
-use Rattle.table.proofs.Starting.{one_block}
-use native.Mathlib.Omega.{arith}
+use Rattle.table.proofs.Starting.{layer-put, layer_is}
 use Rattle.table.proofs.start_layer.Goals as goal
-use Rattle.table.proofs.start_layer.Goals.{At-loop-v}
 
--- nothing written
-none : (xs : List ℕ) (f : ℕ → List ℕ) → xs ≡ write xs 0 (join f 0)
-none xs f = sym (ap (write xs 0) (join-zero f) ∙ write-part xs 0 0)
+module _ (s : Frame) where
+  -- a block holds a label at least
+  one_label : width (asked_by s) ≤ span (asked_by s)
+  one_label =
+      let m = mul-le-mul_right (width (asked_by s)) (cells-pos (asked_by s) s.framed.regular) in
+      let o = one-mul (width (asked_by s)) in
+      omega arith
 
-next-end : (v span at : ℕ) → at ≡ v * span → at + span ≡ (v + 1) * span
-next-end v span at e = let m = add-mul v 1 span in let o = one-mul span in omega arith
+  -- what `start_layer` leaves
+  started : (xs ls : List ℕ) → ls ≡ write xs 0 (join (λ v. start_words s.span s.d (eqb v s.request.source)) s.request.nodes) → ls ≡ write xs 0 (start_layer (asked_by s))
+  started xs ls e =
+      e
+      ∙ ap₂ (λ (n d : ℕ). write xs 0 (join (λ v. start_words n d (eqb v s.request.source)) s.request.nodes)) (span-is s.framed) s.framed.d_is
+      ∙ ap (write xs 0) (layer_is (asked_by s) one_label)
 
--- at the head of the loop
-module _ (l : At-loop-v) where
-  -- the blocks of the layer
-  abbrev blocks : ℕ → List ℕ
-  blocks v = start_words l.args.span l.args.d (eqb v l.args.source)
+  -- the source's block lies in the layer, and its step word in the block
+  source-end : s.request.source * s.span + s.span ≤ s.request.nodes * s.span
+  source-end = piece-end s.span s.request.nodes s.request.source s.framed.regular.source_in
 
-  -- the labels are as many words as they came
-  kept : length l.loop-v.labels ≡ length l.args.labels.now
-  kept = ap length l.loop-v.invariant.2 ∙ length-write l.args.labels.now 0 (join blocks l.loop-v.v)
+  step-in : s.d < s.span
+  step-in = omega (arith, s.framed.d_is, span-is s.framed, one_label)
 
-  -- in the loop there is room for block v
-  room : l.loop-v.v < l.args.n → l.loop-v.at + l.args.span ≤ length l.loop-v.labels
-  room t = omega (arith, piece-end l.args.span l.args.n l.loop-v.v t, l.loop-v.invariant.1, l.requires, kept)
-
-pub loop-v-init : goal.loop-v-init
-loop-v-init c = let a = c.args in (zero-le, sym (zero-mul a.span), none a.labels.now (λ v. start_words a.span a.d (eqb v a.source)))
-
-pub overflow_add-end : goal.overflow_add-end
-overflow_add-end c = omega (arith, room (goal.at.overflow_add-end c).At-loop-v c.loop-v-test.true, kept (goal.at.overflow_add-end c).At-loop-v)
-
-pub offset_bounds-labels-at : goal.offset_bounds-labels-at
-offset_bounds-labels-at c = omega (arith, room (goal.at.offset_bounds-labels-at c).At-loop-v c.loop-v-test.true, kept (goal.at.offset_bounds-labels-at c).At-loop-v)
-
-pub slice_bounds-start_block-end : goal.slice_bounds-start_block-end
-slice_bounds-start_block-end c = room (goal.at.slice_bounds-start_block-end c).At-loop-v c.loop-v-test.true
-
-pub start_block-requires : goal.start_block-requires
-start_block-requires c = let a = c.args in
-    let r = room (goal.at.start_block-requires c).At-loop-v c.loop-v-test.true in
-    let e : c.loop-v.at + a.span - c.loop-v.at ≡ a.span = omega arith in
-    omega (arith, e, c.requires, length_part c.loop-v.labels c.loop-v.at (c.loop-v.at + a.span - c.loop-v.at) (omega arith))
-
-pub loop-v-preserved : goal.loop-v-preserved
-loop-v-preserved c = let a = c.args in
-    let l = c.loop-v in
-    let x = c.start_block in
-    let r = room (goal.at.loop-v-preserved c).At-loop-v c.loop-v-test.true in
-    let e : l.at + a.span - l.at ≡ a.span = omega arith in (
-      omega (arith, c.loop-v-test.true),
-      next-end l.v a.span l.at l.invariant.1,
-      one_block a.labels.now l.labels x.new.block a.source a.d l.at (l.at + a.span - l.at) l.v a.span l.invariant.2 l.invariant.1 e (omega (arith, kept (goal.at.loop-v-preserved c).At-loop-v)) x.ensures (kept (goal.at.loop-v-preserved c).At-loop-v),
-    )
-
-pub shape_of-labels : goal.shape_of-labels
-shape_of-labels c = kept (goal.at.shape_of-labels c).At-loop-v
+pub bounds-labels-source : goal.bounds-labels-source
+bounds-labels-source c = let s = c.args.s.now in
+    omega (arith, source-end s, step-in s, c.requires, c.clear.auto.part, length-drop (s.request.nodes * s.span) c.args.labels.now, length-take (s.request.nodes * s.span) c.args.labels.now)
 
 pub returns : goal.returns
-returns c = let a = c.args in
-    let l = c.loop-v in
-    let e : l.v ≡ a.n = omega arith in
-    l.invariant.2 ∙ ap (λ (n : ℕ). write a.labels.now 0 (join (blocks (goal.at.returns c).At-loop-v) n)) e
+returns c = let s = c.args.s.now in
+    started s c.args.labels.now _
+    (layer-put s.span s.d s.request.source c.args.labels.now c.clear.new.part s.request.nodes c.requires s.framed.regular.source_in (step-in s) c.clear.ensures)

@@ -1,182 +1,158 @@
--- `try_arcs`. The loop's invariant: the arcs before a are passed (`Along`). Assumes nothing.
-use mathlib.Core.Path.{◌≡◌, ap}
-use Prim.Native.Nat.{ℕ, ◌+◌, ◌*◌, ◌≤◌}
+-- `try_arcs`: the arc that comes is the piece at its place, and its tries are its step of the round. Assumes nothing.
+use mathlib.Core.Path.{◌≡◌, sym, ap, ◌∙◌}
+use Prim.Native.Nat.{ℕ, ◌+◌, ◌*◌, ◌/◌, ◌≤◌, ◌<◌}
 use native.Mathlib.Nat.{mul-le-mul}
-use lib.ListN.{length, get_or}
-use Rattle.words.specs.Pieces.{part}
-use Rattle.request.specs.Request.{Req, asked, arc_count, tail, head}
+use native.Mathlib.Omega.{arith}
+use lib.ListN.{length, get_or, drop}
+use Rattle.std.specs.Iterator.Adapters.{enumerate_source, enumerate_count}
+use Rattle.std.specs.Slice.Iter.{chunks_exact_rest, chunks_exact_size}
+use Rattle.std.proofs.lemmas.List.{length_push}
+use Rattle.words.specs.Pieces.{part, at}
+use Rattle.request.specs.Request.{Req, arc_count, tail, head}
 use Rattle.request.specs.Shape.{cells}
+use Rattle.request.proofs.Chunks.{none_taken, chunk-at, left-next, chunk-inside, all_taken}
 use Rattle.rounds.specs.Rounds.{span, block, filled_in}
 use Rattle.rounds.proofs.Ties.{lower-stays}
 use Rattle.rounds.proofs.Tries.{filled_in-le}
-use Rattle.tries.specs.Frame.{Apart, Ranged}
+use Rattle.keeping.specs.declared.Note.{Note}
+use Rattle.keeping.specs.Kept.{unnoted}
+use Rattle.tries.specs.Tries.{asked_by, Apart, Ranged}
 use Rattle.table.proofs.OneArc.{arc-count, Here, here}
-use Rattle.table.proofs.Passing.{layer_words, none_yet, along-length, tries-few, arc-apart, tail-range, tail-count, one-arc, all-passed}
-use native.Mathlib.Omega.{arith}
+use Rattle.table.proofs.Passing.{layer_words, none_yet, tries-few, arc-apart, tail-range, one-arc, all-passed}
 use Rattle.table.proofs.try_arcs.Goals as goal
-use Rattle.table.proofs.try_arcs.Goals.{After-block_at-in-loop-a, At-loop-a, In-loop-a}
+use Rattle.table.proofs.try_arcs.Goals.{At-loop-a, In-Some}
 
--- at the head of the loop, over the request that was framed
+-- at the head of the loop
 module _ (l : At-loop-a) where
-  abbrev R-of : Req
-  R-of = asked l.args.s.request l.args.arcs.now
-
-  -- the labels are as many words as they came
-  kept : length l.loop-a.labels ≡ length l.args.labels.now
-  kept =
-      let a = l.args in
-      along-length R-of a.labels.now a.prev a.base l.requires.framed.regular l.requires.layered l.loop-a.labels l.loop-a.tries l.loop-a.a l.loop-a.invariant
-
-  -- and the tries before arc a at most its cells each
-  counted : l.loop-a.tries ≤ l.loop-a.a * cells R-of
+  -- the tries before this arc are at most its cells each
+  counted : l.loop-a.tries ≤ length l.loop-a.yielded * cells (asked_by l.args.s.now)
   counted =
       let a = l.args in
-      tries-few R-of a.labels.now a.prev a.base l.requires.framed.regular l.requires.layered l.loop-a.labels l.loop-a.tries l.loop-a.a l.loop-a.invariant
+      tries-few (asked_by a.s.now) a.labels.now a.prev a.base a.s.now.framed.regular l.requires.layered l.loop-a.labels l.loop-a.tries (length l.loop-a.yielded) l.loop-a.invariant.passed
 
--- in the loop: arc a's two nodes are in the request, and their blocks in a layer
-arc-of : (b : In-loop-a) → (Here b.args.s b.args.arcs.now b.args.ladders.now b.requires.framed b.loop-a.a)
-arc-of b = here b.args.s b.args.arcs.now b.args.ladders.now b.requires.framed b.loop-a.a b.loop-a-test.true
+-- the arc that has come: its number and its words, and that its two nodes are in the request
+module _ (c : In-Some) where
+  abbrev k : ℕ
+  k = length c.loop-a.yielded
 
--- once the two blocks are found
-module _ (c : After-block_at-in-loop-a) where
+  wide : 0 < c.args.s.now.w
+  wide = omega (arith, c.args.s.now.framed.sized.words)
+
+  number-is : c.in-Some.a ≡ k
+  number-is = c.in-Some.ensures.steps.1 ∙ c.loop-a.invariant.number
+
+  long : length c.in-Some.arc.now ≡ c.args.s.now.w
+  long = c.in-Some.ensures.steps.0.1.1 ∙ c.loop-a.invariant.size
+
+  words-are : c.in-Some.arc.now ≡ at c.args.s.now.w c.args.s.now.arcs.now k
+  words-are = chunk-at c.args.s.now.w k c.args.s.now.arcs.now _ c.in-Some.arc.now _ c.loop-a.invariant.left c.in-Some.ensures.steps.0.1.0 long
+
+  left-on : chunks_exact_rest (enumerate_source c.next.new.self) ≡ drop ((k + 1) * c.args.s.now.w) c.args.s.now.arcs.now
+  left-on = left-next c.args.s.now.w k c.args.s.now.arcs.now _ c.in-Some.arc.now _ c.loop-a.invariant.left c.in-Some.ensures.steps.0.1.0 long
+
+  inside : k < length c.args.s.now.arcs.now / c.args.s.now.w
+  inside = chunk-inside c.args.s.now.w k c.args.s.now.arcs.now _ c.in-Some.arc.now _ c.loop-a.invariant.left c.in-Some.ensures.steps.0.1.0 long wide
+
+  this-arc : Here c.args.s.now k c.in-Some.arc.now inside words-are
+  this-arc = here c.args.s.now k c.in-Some.arc.now inside words-are
+
   abbrev R : Req
-  R = asked c.args.s.request c.args.arcs.now
+  R = asked_by c.args.s.now
 
-  -- where they begin
-  abbrev from : ℕ
-  from = c.args.prev + c.block_at.result
+  -- the tail's note, and that it counts the filled labels of its block
+  abbrev note : Note
+  note = get_or c.args.notes.now (get_or c.in-Some.arc.now 0 0) unnoted
 
-  abbrev to : ℕ
-  to = c.args.base + c.block_at-in-loop-a.result
+  -- its blocks begin f words into the layer before and t words into this one
+  module _ (f t : ℕ) (f-is : f ≡ get_or c.in-Some.arc.now 0 0 * c.args.s.now.span) (t-is : t ≡ get_or c.in-Some.arc.now 1 0 * c.args.s.now.span) where
+    from_is : c.args.prev + f ≡ c.args.prev + tail R k * span R
+    from_is = omega (arith, this-arc)
 
-  -- the arc's own words
-  this-arc : Here c.args.s c.args.arcs.now c.args.ladders.now c.requires.framed c.loop-a.a
-  this-arc = here c.args.s c.args.arcs.now c.args.ladders.now c.requires.framed c.loop-a.a c.loop-a-test.true
+    to_is : c.args.base + t ≡ c.args.base + head R k * span R
+    to_is = omega (arith, this-arc)
 
-  -- the tail's is in the layer before, the head's in this one
-  from_is : from ≡ c.args.prev + tail R c.loop-a.a * span R
-  from_is = omega (arith, this-arc, c.block_at.ensures)
+    -- they stand apart, and what the tail kept was tried
+    apart : Apart R c.loop-a.labels (c.args.prev + f) (c.args.base + t) k
+    apart =
+        let l = c.loop-a in
+        let a = c.args in
+        arc-apart R a.labels.now a.prev a.base a.s.now.framed.regular c.requires.layered l.labels l.tries k l.invariant.passed this-arc.index (a.prev + f) (a.base + t) from_is to_is
+        (lower-stays a.s.now.request.criteria) c.requires.kept
 
-  to_is : to ≡ c.args.base + head R c.loop-a.a * span R
-  to_is = omega (arith, this-arc, c.block_at-in-loop-a.ensures)
-
-  -- they stand apart, and what the tail kept was tried
-  apart : Apart R c.loop-a.labels from to c.loop-a.a
-  apart =
-      let l = c.loop-a in
-      let a = c.args in
-      arc-apart R a.labels.now a.prev a.base c.requires.framed.regular c.requires.layered l.labels l.tries l.a l.invariant this-arc.index from to from_is to_is
-      (lower-stays a.s.request.criteria) c.requires.arcs_value
-
-  -- the range that was noted for the tail holds its filled labels
-  abbrev tail-node : ℕ
-  tail-node = get_or c.args.arcs.now (c.loop-a.a * c.args.s.w) 0
-
-  range : Ranged R (part c.loop-a.labels from (span R)) (get_or c.args.lows.now tail-node 0) (get_or c.args.highs.now tail-node 0)
-  range =
-      let l = c.loop-a in
-      let a = c.args in
-      tail-range R a.labels.now a.prev a.base c.requires.framed.regular c.requires.layered l.labels l.tries l.a l.invariant this-arc.index from to from_is to_is
-      a.filled.now a.lows.now a.highs.now c.requires.notes _ _
-      (ap (λ (v : ℕ). get_or a.lows.now v 0) this-arc.tail-is) (ap (λ (v : ℕ). get_or a.highs.now v 0) this-arc.tail-is)
+    -- the range that was noted for the tail holds its filled labels
+    range : Ranged R (part c.loop-a.labels (c.args.prev + f) (span R)) note.low note.high
+    range =
+        let l = c.loop-a in
+        let a = c.args in
+        tail-range R a.labels.now a.prev a.base a.s.now.framed.regular c.requires.layered l.labels l.tries k l.invariant.passed this-arc.index (a.prev + f) (a.base + t) from_is to_is
+        a.notes.now c.requires.noted note (ap (λ (v : ℕ). get_or a.notes.now v unnoted) this-arc.tail-is)
 
   -- and the count that was noted is how many they are
-  noted : get_or c.args.filled.now tail-node 0 ≡ filled_in R (block R (part c.args.labels.now c.args.prev (layer_words R)) (tail R c.loop-a.a))
-  noted =
-      let l = c.loop-a in
-      let a = c.args in
-      tail-count R a.labels.now a.prev a.base c.requires.framed.regular c.requires.layered l.labels l.tries l.a l.invariant this-arc.index from to from_is to_is
-      a.filled.now a.lows.now a.highs.now c.requires.notes _ (ap (λ (v : ℕ). get_or a.filled.now v 0) this-arc.tail-is)
-
-pub nonzero_div-m : goal.nonzero_div-m
-nonzero_div-m c = omega (arith, c.requires.framed.sized.words)
+  noted : note.filled ≡ filled_in R (block R (part c.args.labels.now c.args.prev (layer_words R)) (tail R k))
+  noted = ap (λ (v : ℕ). (get_or c.args.notes.now v unnoted).filled) this-arc.tail-is ∙ c.requires.noted.counts (tail R k) (c.args.s.now.framed.regular.tail_in k this-arc.index)
 
 pub loop-a-init : goal.loop-a-init
-loop-a-init c = let s = c.args in none_yet (asked s.s.request s.arcs.now) s.labels.now s.prev s.base
+loop-a-init c = let a = c.args in
+    let i = c.enumerate-a-items.ensures in
+    let same = c.into_iter-a-iterator.ensures.into_iter_gives in
+    let source = ap enumerate_source same ∙ i.source in
+    record {
+      passed = none_yet (asked_by a.s.now) a.labels.now a.prev a.base;
+      number = ap enumerate_count same ∙ i.count;
+      size = ap chunks_exact_size source ∙ c.chunks_exact.ensures.size;
+      left = ap chunks_exact_rest source ∙ c.chunks_exact.ensures.rest ∙ none_taken a.s.now.w a.s.now.arcs.now;
+    }
 
-pub overflow_mul-at : goal.overflow_mul-at
-overflow_mul-at c = omega (arith, arc-of (goal.at.overflow_mul-at c).In-loop-a)
-
-pub offset_bounds-arcs-at : goal.offset_bounds-arcs-at
-offset_bounds-arcs-at c = omega (arith, arc-of (goal.at.offset_bounds-arcs-at c).In-loop-a)
-
-pub bounds-arcs-at : goal.bounds-arcs-at
-bounds-arcs-at c = omega (arith, arc-of (goal.at.bounds-arcs-at c).In-loop-a)
-
-pub overflow_cast-tail : goal.overflow_cast-tail
-overflow_cast-tail c = omega (arith, arc-of (goal.at.overflow_cast-tail c).In-loop-a)
-
-pub overflow_add-head : goal.overflow_add-head
-overflow_add-head c = omega (arith, arc-of (goal.at.overflow_add-head c).In-loop-a)
-
-pub offset_bounds-arcs-at-in-loop-a : goal.offset_bounds-arcs-at-in-loop-a
-offset_bounds-arcs-at-in-loop-a c = omega (arith, arc-of (goal.at.offset_bounds-arcs-at-in-loop-a c).In-loop-a)
-
-pub bounds-arcs-at-in-loop-a : goal.bounds-arcs-at-in-loop-a
-bounds-arcs-at-in-loop-a c = omega (arith, arc-of (goal.at.bounds-arcs-at-in-loop-a c).In-loop-a)
-
-pub overflow_cast-head : goal.overflow_cast-head
-overflow_cast-head c = omega (arith, arc-of (goal.at.overflow_cast-head c).In-loop-a)
-
-pub block_at-requires : goal.block_at-requires
-block_at-requires c = omega (arith, arc-of (goal.at.block_at-requires c).In-loop-a)
-
-pub overflow_add-from : goal.overflow_add-from
-overflow_add-from c = omega (arith, arc-of (goal.at.overflow_add-from c).In-loop-a, c.requires.layered, kept (goal.at.overflow_add-from c).At-loop-a, c.block_at.ensures)
-
-pub block_at-requires-in-loop-a : goal.block_at-requires-in-loop-a
-block_at-requires-in-loop-a c = omega (arith, arc-of (goal.at.block_at-requires-in-loop-a c).In-loop-a)
-
-pub overflow_add-to : goal.overflow_add-to
-overflow_add-to c = omega (arith, arc-of (goal.at.overflow_add-to c).In-loop-a, c.requires.layered, kept (goal.at.overflow_add-to c).At-loop-a, c.block_at-in-loop-a.ensures)
-
-pub offset_bounds-filled-tail : goal.offset_bounds-filled-tail
-offset_bounds-filled-tail c = omega (arith, arc-of (goal.at.offset_bounds-filled-tail c).In-loop-a)
-
-pub bounds-filled-tail : goal.bounds-filled-tail
-bounds-filled-tail c = omega (arith, arc-of (goal.at.bounds-filled-tail c).In-loop-a, c.requires.notes)
+pub bounds-notes-tail : goal.bounds-notes-tail
+bounds-notes-tail c = omega (arith, this-arc (goal.at.bounds-notes-tail c).In-Some, c.requires.noted.long)
 
 -- at most 512 arcs of 1,048,576 cells
 pub overflow_add-tries : goal.overflow_add-tries
-overflow_add-tries c = let b = (goal.at.overflow_add-tries c).After-block_at-in-loop-a in
-    let few : cells (R b) ≤ 1048576 = omega (arith, c.requires.framed.sized, c.requires.framed.cells_is) in
-    let most : c.loop-a.a ≤ 512 = omega (arith, this-arc b) in
-    omega (arith, counted (goal.at.overflow_add-tries c).At-loop-a, mul-le-mul most few, noted b, filled_in-le (R b) (block (R b) (part c.args.labels.now c.args.prev (layer_words (R b))) (tail (R b) c.loop-a.a)))
+overflow_add-tries c = let i = (goal.at.overflow_add-tries c).In-Some in
+    let few : cells (R i) ≤ 1048576 = omega (arith, c.args.s.now.framed.sized, c.args.s.now.framed.cells_is) in
+    let most : k i ≤ 512 = omega (arith, this-arc i) in
+    omega (arith, counted (goal.at.overflow_add-tries c).At-loop-a, mul-le-mul most few, noted i, filled_in-le (R i) (block (R i) (part c.args.labels.now c.args.prev (layer_words (R i))) (tail (R i) (k i))))
 
-pub offset_bounds-lows-tail : goal.offset_bounds-lows-tail
-offset_bounds-lows-tail c = omega (arith, arc-of (goal.at.offset_bounds-lows-tail c).In-loop-a)
+pub block_at-requires : goal.block_at-requires
+block_at-requires c = omega (arith, this-arc (goal.at.block_at-requires c).In-Some)
 
-pub bounds-lows-tail : goal.bounds-lows-tail
-bounds-lows-tail c = omega (arith, arc-of (goal.at.bounds-lows-tail c).In-loop-a, c.requires.notes)
-
-pub offset_bounds-highs-tail : goal.offset_bounds-highs-tail
-offset_bounds-highs-tail c = omega (arith, arc-of (goal.at.offset_bounds-highs-tail c).In-loop-a)
-
-pub bounds-highs-tail : goal.bounds-highs-tail
-bounds-highs-tail c = omega (arith, arc-of (goal.at.bounds-highs-tail c).In-loop-a, c.requires.notes)
+pub block_at-requires-in-loop-a : goal.block_at-requires-in-loop-a
+block_at-requires-in-loop-a c = omega (arith, this-arc (goal.at.block_at-requires-in-loop-a c).In-Some)
 
 pub try_arc-requires : goal.try_arc-requires
-try_arc-requires c = let b = (goal.at.try_arc-requires c).After-block_at-in-loop-a in record { framed = c.requires.framed; apart = apart b; a_bound = (this-arc b).index; ranged = range b }
-
-pub overflow_add-a : goal.overflow_add-a
-overflow_add-a c = omega (arith, arc-of (goal.at.overflow_add-a c).In-loop-a)
-
-pub loop-a-smaller : goal.loop-a-smaller
-loop-a-smaller c = omega (arith, arc-of (goal.at.loop-a-smaller c).In-loop-a)
+try_arc-requires c = let i = (goal.at.try_arc-requires c).In-Some in
+    let f = c.block_at in
+    let t = c.block_at-in-loop-a in
+    record {
+      apart = rw (number-is i) (apart i f.result t.result f.ensures t.ensures);
+      a_bound = omega (arith, number-is i, (this-arc i).index);
+      ranged = range i f.result t.result f.ensures t.ensures;
+    }
 
 pub loop-a-preserved : goal.loop-a-preserved
-loop-a-preserved c = let b = (goal.at.loop-a-preserved c).After-block_at-in-loop-a in
-    let made = c.try_arc in
-    let l = c.loop-a in
+loop-a-preserved c = let i = (goal.at.loop-a-preserved c).In-Some in
     let a = c.args in
-    one-arc (R b) a.labels.now a.prev a.base c.requires.framed.regular c.requires.layered l.labels l.tries l.a l.invariant (this-arc b).index (from b) (to b) (from_is b) (to_is b)
-    made.new.labels _ made.ensures (noted b)
-
-pub shape_of-labels : goal.shape_of-labels
-shape_of-labels c = kept (goal.at.shape_of-labels c).At-loop-a
+    let l = c.loop-a in
+    let f = c.block_at in
+    let t = c.block_at-in-loop-a in
+    let step = c.in-Some.ensures.steps in
+    let more = length_push l.yielded (c.in-Some.a, c.in-Some.arc) in
+    let made = c.try_arc.ensures in
+    let next = one-arc (R i) a.labels.now a.prev a.base a.s.now.framed.regular c.requires.layered l.labels l.tries (k i) l.invariant.passed (this-arc i).index (a.prev + f.result) (a.base + t.result)
+    (from_is i f.result t.result f.ensures t.ensures) (to_is i f.result t.result f.ensures t.ensures) c.try_arc.new.labels _ (rw (number-is i) at made) (noted i) in
+    record {
+      passed = rw more next;
+      number = step.2 ∙ ap (λ (n : ℕ). n + 1) l.invariant.number ∙ sym more;
+      size = step.0.0 ∙ l.invariant.size;
+      left = left-on i ∙ ap (λ (n : ℕ). drop (n * a.s.now.w) a.s.now.arcs.now) (sym more);
+    }
 
 pub returns : goal.returns
 returns c = let a = c.args in
     let l = c.loop-a in
-    let m = arc-count a.s a.arcs.now a.ladders.now c.requires.framed in
-    let e : l.a ≡ arc_count (R-of (goal.at.returns c).At-loop-a) = omega (arith, l.invariant.inside) in let whole = all-passed (R-of (goal.at.returns c).At-loop-a) a.labels.now a.prev a.base l.labels l.tries l.a l.invariant e in record { labels_after = whole.0; value = whole.1 }
+    let R = asked_by a.s.now in
+    let m = arc-count a.s.now in
+    let few = all_taken a.s.now.w (length l.yielded) a.s.now.arcs.now _ (omega (arith, a.s.now.framed.sized.words)) l.invariant.left (omega (arith, c.in-None.ensures.steps.0.1.0, l.invariant.size)) in
+    let e : length l.yielded ≡ arc_count R = omega (arith, l.invariant.passed.inside) in
+    let whole = all-passed R a.labels.now a.prev a.base l.labels l.tries (length l.yielded) l.invariant.passed e in
+    record { labels_after = whole.0; value = whole.1 }

@@ -1,38 +1,24 @@
--- `cut`: the first i bytes are not b, and the rest goes on as it stands. Assumes nothing.
-use Prim.Native.Nat.{ℕ, ◌+◌, ◌<◌}
-use mathlib.Core.Path.{refl, sym, ◌∙◌, ap}
-use mathlib.Core.List.{List, [], ◌∷◌, ◌++◌, append-nil, append_assoc}
-use native.Mathlib.Omega.{arith}
-use lib.ListN.{length, take, drop, get_or}
-use lib.Seq.{length-take-le, take_all}
-use borrow.Author.Rules.{rules}
+-- `cut`: what stands before the first b that `position` finds. Assumes nothing.
+use Rattle.std.proofs.Common.{◌∙◌, ◌≡◌, ℕ, Option, MatchOption, eqb, take, sym, subst, rules}
+use borrow.Author.Tests.{tests}
+use Rattle.std.specs.List.{position}
+use Rattle.std.proofs.lemmas.Iterator.{YieldsList-from_slice}
+use Rattle.std.proofs.lemmas.Iterator.Search.{position_from_yields_List}
 use Rattle.text.specs.Field.{before}
-use Rattle.text.proofs.Fields.{before-end, before-stop, before_on, take_next}
+use Rattle.text.proofs.Fields.{before-is}
 use Rattle.text.proofs.cut.Goals as goal
+use Rattle.text.proofs.cut.Goals.{After-position}
 
-pub loop-i-init : goal.loop-i-init
-loop-i-init c = (omega arith, refl)
+-- what was found
+found : (c : After-position) → c.position.result ≡ position (λ x. eqb x c.args.b) c.args.s.now
+found c = position_from_yields_List (λ x. eqb x c.args.b) _ _ c.position.result c.position.ensures.ran (YieldsList-from_slice c.args.s.now cc) (λ x b q k. search (rules, tests))
 
-pub slice_bounds-result-end : goal.slice_bounds-result-end
-slice_bounds-result-end c = let a = c.args in
-    sym (length-take-le c.loop-i.i a.s.now (omega arith))
+-- what has to be cut, by what was found
+abbrev Cuts : After-position → Option ℕ → Type 0
+Cuts c o = MatchOption o (c.args.s.now ≡ before c.args.b c.args.s.now) (λ n. take n c.args.s.now ≡ before c.args.b c.args.s.now)
 
-pub returns-then-s-i : goal.returns-then-s-i
-returns-then-s-i c = let a = c.args in
-    let i = c.loop-i.i in
-    sym (c.loop-i.invariant.1 ∙ ap (λ (l : List ℕ). take i a.s.now ++ l) (before-stop a.b i a.s.now (omega arith) c.if-s-i.true) ∙ append-nil _)
+pub returns-in-Some : goal.returns-in-Some
+returns-in-Some c = let p = (goal.at.returns-in-Some c).After-position in subst (Cuts p) (sym (found p) ∙ c.in-Some.is) (before-is c.args.b c.args.s.now)
 
-pub loop-i-preserved : goal.loop-i-preserved
-loop-i-preserved c = let a = c.args in
-    let i = c.loop-i.i in
-    let h : i < length a.s.now = omega arith in (
-      search rules,
-      c.loop-i.invariant.1 ∙ ap (λ (l : List ℕ). take i a.s.now ++ l) (before_on a.b i a.s.now h c.if-s-i.false)
-          ∙ sym (ap (λ (l : List ℕ). l ++ before a.b (drop (i + 1) a.s.now)) (take_next i a.s.now h) ∙ append_assoc (take i a.s.now) (get_or a.s.now i 0 ∷ []) (before a.b (drop (i + 1) a.s.now))),
-    )
-
-pub returns : goal.returns
-returns c = let a = c.args in
-    let i = c.loop-i.i in
-    let e = c.loop-i-test.false in
-    sym (c.loop-i.invariant.1 ∙ simp (before-end, take_all, e) (append-nil a.s.now))
+pub returns-in-None : goal.returns-in-None
+returns-in-None c = let p = (goal.at.returns-in-None c).After-position in subst (Cuts p) (sym (found p) ∙ c.in-None.is) (before-is c.args.b c.args.s.now)

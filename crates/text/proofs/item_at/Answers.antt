@@ -1,10 +1,10 @@
 -- `item_at`: the field is cut out of the line, and the number read from it; a fault keeps its byte in the line. Assumes nothing.
-use Prim.Native.Nat.{ℕ, ◌+◌}
-use mathlib.Core.Path.{◌≡◌, sym, ◌∙◌, ap}
-use mathlib.Core.List.{List}
-use native.Mathlib.Omega.{arith}
-use lib.ListN.{length, drop, length-drop}
-use Rattle.text.specs.declared.Number.TheVariants.{Fault}
+use Rattle.std.proofs.Common.{◌≡◌, ◌+◌, ◌<◌, length, drop, get_or, Ok, Err, sym, ◌∙◌, ap, arith, rules}
+use borrow.Author.Tests.{tests}
+use Rattle.std.proofs.lemmas.Bool.Decides.{nat_tests}
+use lib.ListN.{length-drop}
+use Rattle.text.specs.declared.Fault.{Fault}
+use Rattle.text.specs.Fault.{fault}
 use Rattle.text.specs.Field.{before}
 use Rattle.text.specs.Number.{number}
 use Rattle.text.specs.Line.{item, placed}
@@ -14,36 +14,34 @@ use Rattle.text.proofs.Lines.{item-end, item-other, item-read}
 use Rattle.text.proofs.item_at.Goals as goal
 use Rattle.text.proofs.item_at.Goals.{After-number_of}
 
-abbrev at_of : After-number_of → ℕ
-at_of c = c.args.at
-
-abbrev line_of : After-number_of → List ℕ
-line_of c = c.args.line.now
-
-abbrev sep-of : After-number_of → ℕ
-sep-of c = c.args.sep
-
 -- what the field that was cut says is what the line says at `at`
 module _ (c : After-number_of) where
-  field_is : c.cut-field.result.now ≡ before (sep-of c) (drop (at_of c + 1) (line_of c))
-  field_is = c.cut-field.ensures ∙ ap (before (sep-of c)) (rest-is (line_of c) (at_of c + 1))
+  there : (c.args.at < length c.args.line.now) × (get_or c.args.line.now c.args.at 0 ≡ c.args.sep)
+  there = search (rules, tests)
 
-  reads_so : item (sep-of c) (at_of c) (drop (at_of c) (line_of c))
-      ≡ placed (at_of c) (length c.cut-field.result.now) c.number_of.result
-  reads_so = item-read _ _ _ _ _ (omega arith) c.if-line-at-2.false field_is c.number_of.ensures
+  field_is : c.cut-field.result.now ≡ before c.args.sep (drop (c.args.at + 1) c.args.line.now)
+  field_is = c.cut-field.ensures ∙ ap (before c.args.sep) (rest-is c.args.line.now (c.args.at + 1))
 
-pub returns-then-line-at : goal.returns-then-line-at
-returns-then-line-at c = sym (item-end _ _ _ c.if-line-at.true)
+  reads_so : item c.args.sep c.args.at (drop c.args.at c.args.line.now) ≡ placed c.args.at (length c.cut-field.result.now) c.number_of.result
+  reads_so = item-read _ _ _ _ _ there.0 there.1 field_is c.number_of.ensures
 
-pub returns-then-line-at-2 : goal.returns-then-line-at-2
-returns-then-line-at-2 c = sym (item-other _ _ _ (omega arith) c.if-line-at-2.true)
+  -- a fault lies within the line, or at its end
+  fault_inside : (f : Fault) → c.number_of.result ≡ Err f → c.args.at + 1 + f.at < 18446744073709551616
+  fault_inside f h =
+      let a = c.args in
+      let e : number c.cut-field.result.now ≡ fault f.at = sym c.number_of.ensures ∙ h in
+      omega (arith, there.0, number-fault c.cut-field.result.now f.at e, ap length field_is, before-length a.sep (drop (a.at + 1) a.line.now), length-drop (a.at + 1) a.line.now)
 
-pub overflow_add-result-in-Fault : goal.overflow_add-result-in-Fault
-overflow_add-result-in-Fault c = let e : number c.cut-field.result.now ≡ Fault c.in-Fault.i = sym c.number_of.ensures ∙ c.in-Fault.is in
-    omega (arith, number-fault c.cut-field.result.now c.in-Fault.i e, ap length (field_is (goal.at.overflow_add-result-in-Fault c).After-number_of), before-length (sep-of (goal.at.overflow_add-result-in-Fault c).After-number_of) (drop (at_of (goal.at.overflow_add-result-in-Fault c).After-number_of + 1) (line_of (goal.at.overflow_add-result-in-Fault c).After-number_of)), length-drop (at_of (goal.at.overflow_add-result-in-Fault c).After-number_of + 1) (line_of (goal.at.overflow_add-result-in-Fault c).After-number_of))
+pub returns-then-ne : goal.returns-then-ne
+returns-then-ne c = grind (arith, nat_tests, item-end, item-other)
 
-pub returns-in-Value : goal.returns-in-Value
-returns-in-Value c = sym (reads_so (goal.at.returns-in-Value c).After-number_of ∙ ap (placed _ _) c.in-Value.is)
+pub map_err-requires : goal.map_err-requires
+map_err-requires c = λ f h. let l = fault_inside (goal.at.map_err-requires c).After-number_of f h in search rules
 
-pub returns-in-Fault : goal.returns-in-Fault
-returns-in-Fault c = sym (reads_so (goal.at.returns-in-Fault c).After-number_of ∙ ap (placed _ _) c.in-Fault.is)
+pub returns : goal.returns
+returns c =
+    let e : c.number_of.result ≡ Ok c.in_ok-value.value = search rules in
+    sym (reads_so (goal.at.returns c).After-number_of ∙ ap (placed _ _) e)
+
+pub returns-in_err-value : goal.returns-in_err-value
+returns-in_err-value c = sym (reads_so (goal.at.returns-in_err-value c).After-number_of ∙ search rules)

@@ -1,51 +1,38 @@
--- `put_numbers`: the first i numbers are written, each after sep. Assumes nothing.
-use Prim.Native.Nat.{ℕ, ◌≤◌, ◌+◌}
-use mathlib.Core.Path.{◌≡◌, refl, ◌∙◌, ap}
-use mathlib.Core.List.{List}
-use native.Mathlib.Omega.{arith}
-use lib.ListN.{length, set, get_or, length-set}
-use lib.Seq.{take_all}
-use Rattle.words.specs.Pieces.{write}
+-- `put_numbers`: the numbers so far are written, each after sep. Assumes nothing.
+use Rattle.std.proofs.Common.{◌≡◌, ◌≤◌, ◌+◌, length, set, get_or, refl, arith}
+use lib.ListN.{length-set}
 use Rattle.text.specs.Number.{digits}
-use Rattle.text.specs.Line.{parted}
 use Rattle.text.proofs.Puts.{parted-end, parted-room, parted-none, numbers-next}
 use Rattle.text.proofs.put_numbers.Goals as goal
-use Rattle.text.proofs.put_numbers.Goals.{In-loop-i}
+use Rattle.text.proofs.put_numbers.Goals.{In-loop-v}
 
-room : (c : In-loop-i)
-    → c.loop-i.a + 1 + length (digits (get_or c.args.vs.now c.loop-i.i 0)) ≤ length c.loop-i.out
+-- the next number has room
+room : (c : In-loop-v) → c.loop-v.a + 1 + length (digits (get_or c.args.vs.now c.loop-v.v-index 0)) ≤ length c.loop-v.out
 room c =
     let a = c.args in
-    let i = c.loop-i.i in
+    let i = c.loop-v.v-index in
     omega (arith, parted-end a.sep a.vs.now i (omega arith), parted-room a.sep a.vs.now (i + 1))
 
-pub loop-i-init : goal.loop-i-init
-loop-i-init c = let t = parted-none c.args.sep c.args.out.now c.args.at in
-    (omega arith, refl, t.0, t.1)
+pub loop-v-init : goal.loop-v-init
+loop-v-init c = let t = parted-none c.args.sep c.args.out.now c.args.at in (refl, t.0, t.1)
 
 pub bounds-out-a : goal.bounds-out-a
-bounds-out-a c = omega (arith, room (goal.at.bounds-out-a c).In-loop-i)
+bounds-out-a c = omega (arith, room (goal.at.bounds-out-a c).In-loop-v)
 
 pub overflow_add-a : goal.overflow_add-a
-overflow_add-a c = omega (arith, room (goal.at.overflow_add-a c).In-loop-i, c.loop-i.invariant.1)
+overflow_add-a c = omega (arith, room (goal.at.overflow_add-a c).In-loop-v, c.loop-v.invariant.0)
 
 pub put_number-a-requires : goal.put_number-a-requires
-put_number-a-requires c = simp length-set (room (goal.at.put_number-a-requires c).In-loop-i)
+put_number-a-requires c = simp length-set (room (goal.at.put_number-a-requires c).In-loop-v)
 
-pub loop-i-preserved : goal.loop-i-preserved
-loop-i-preserved c = let a = c.args in
+pub loop-v-preserved : goal.loop-v-preserved
+loop-v-preserved c =
+    let a = c.args in
+    let i = c.loop-v.v-index in
     let e = c.put_number-a.ensures in
     let k = c.put_number-a.auto.out in
-    let n : length (set c.loop-i.out c.loop-i.a a.sep) ≡ length c.loop-i.out = length-set c.loop-i.out c.loop-i.a a.sep in (
-      omega arith,
-      omega (arith, c.loop-i.invariant.1),
-      omega (arith, e.value, c.loop-i.invariant.2, parted-end a.sep a.vs.now c.loop-i.i (omega arith)),
-      numbers-next a.sep a.out.now a.vs.now c.loop-i.out c.put_number-a.new.out a.at c.loop-i.i c.loop-i.a (omega arith) c.loop-i.invariant.2 c.loop-i.invariant.3 e.out_after,
+    let n : length (set c.loop-v.out c.loop-v.a a.sep) ≡ length c.loop-v.out = length-set c.loop-v.out c.loop-v.a a.sep in (
+      omega (arith, c.loop-v.invariant.0),
+      omega (arith, e.value, c.loop-v.invariant.1, parted-end a.sep a.vs.now i (omega arith)),
+      numbers-next a.sep a.out.now a.vs.now c.loop-v.out c.put_number-a.new.out a.at i c.loop-v.a (omega arith) c.loop-v.invariant.1 c.loop-v.invariant.2 e.out_after,
     )
-
-pub shape_of-out : goal.shape_of-out
-shape_of-out c = c.loop-i.invariant.1
-
-pub returns : goal.returns
-returns c = let a = c.args in
-    let t = take_all c.loop-i.i a.vs.now c.loop-i-test.false in record { value = c.loop-i.invariant.2 ∙ ap (λ (x : List ℕ). a.at + length (parted a.sep x)) t; out_after = c.loop-i.invariant.3 ∙ ap (λ (x : List ℕ). write a.out.now a.at (parted a.sep x)) t }

@@ -1,6 +1,7 @@
 -- `width`: the digits counted so far and those of what is left make all. Assumes nothing.
-use native.Mathlib.Omega.{arith}
-use Rattle.text.proofs.Digits.{width_small, width-more}
+use Rattle.std.proofs.Common.{◌≡◌, length, arith}
+use Rattle.text.specs.Number.{digits}
+use Rattle.text.proofs.Digits.{width_small, width-more, width_word}
 use Rattle.text.proofs.width.Goals as goal
 
 pub loop-v-init : goal.loop-v-init
@@ -16,4 +17,6 @@ pub loop-v-preserved : goal.loop-v-preserved
 loop-v-preserved c = omega (arith, width-more c.loop-v.v c.loop-v-test.true)
 
 pub returns : goal.returns
-returns c = omega (arith, width_small c.loop-v.v c.loop-v-test.false)
+returns c =
+    let w : c.loop-v.w ≡ length (digits c.args.n) = omega (arith, width_small c.loop-v.v c.loop-v-test.false) in
+    record { value = w; upper_bound = omega (arith, width_word c.args.n (omega arith)) }

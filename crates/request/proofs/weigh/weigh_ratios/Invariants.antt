@@ -1,12 +1,9 @@
 -- `weigh_ratios`. The loop's invariant: no ratio before criterion j is bad. Assumes nothing.
-use Prim.Native.Nat.{ℕ, ◌-◌, ◌≤◌, ◌<◌}
+use Prim.Native.Nat.{ℕ, ◌<◌}
 use mathlib.Core.Bool.{not}
 use lib.Dec.{T}
 use Rattle.request.specs.Rows.{ratio_row}
 use Rattle.request.proofs.weigh.weigh_ratios.Given as goal
 
 abbrev pub invariant-loop-j : goal.invariant-loop-j
-invariant-loop-j l = (l.j ≤ l.graded) × ((i : ℕ) → i < l.j → T (not (ratio_row l.ratios i).holds))
-
-abbrev pub decreases-loop-j : goal.decreases-loop-j
-decreases-loop-j l = l.graded - l.j
+invariant-loop-j l = (i : ℕ) → i < l.j → T (not (ratio_row l.ratios i).holds)

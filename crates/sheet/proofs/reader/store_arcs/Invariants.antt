@@ -1,5 +1,5 @@
--- `store_arcs`: the words of the first i arcs are stored, in p words, and the lines from byte `at` on say the rest. Assumes nothing.
-use Prim.Native.Nat.{◌-◌, ◌≤◌}
+-- `store_arcs`: the words of the first i arcs are stored, and the lines from byte `at` on say the rest. Assumes nothing.
+use Prim.Native.Nat.{◌*◌, ◌≤◌}
 use mathlib.Core.Path.{◌≡◌}
 use lib.ListN.{length, take}
 use Rattle.words.specs.Pieces.{write}
@@ -9,7 +9,6 @@ use Rattle.sheet.proofs.Stores.{Going}
 use Rattle.sheet.proofs.reader.store_arcs.Given as goal
 
 abbrev pub invariant-loop-i : goal.invariant-loop-i
-invariant-loop-i l = (l.i ≤ l.m) × (l.at ≤ length l.sheet) × (l.p ≤ length (words_of (sheet_of l.sheet))) × (l.arcs ≡ write l.initial.arcs 0 (take l.p (words_of (sheet_of l.sheet)))) × Going l.sheet l.m l.at l.p l.i
-
-abbrev pub decreases-loop-i : goal.decreases-loop-i
-decreases-loop-i l = l.m - l.i
+invariant-loop-i l =
+    (l.at ≤ length l.sheet) × (l.i * l.n ≤ length (words_of (sheet_of l.sheet)))
+    × (l.arcs ≡ write l.initial.arcs 0 (take (l.i * l.n) (words_of (sheet_of l.sheet)))) × Going l.sheet l.fn.form.arcs l.at (l.i * l.n) l.i

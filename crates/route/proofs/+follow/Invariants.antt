@@ -1,5 +1,0 @@
--- `follow` calls itself in the layer before: the measure is the layer. Assumes nothing.
-use Rattle.route.proofs.+follow.Given as goal
-
-abbrev pub decreases-follow : goal.decreases-follow
-decreases-follow l = l.layer
