@@ -6,12 +6,13 @@ use mathlib.Core.List.{List, [], ◌∷◌}
 use lib.Dec.{eqb}
 use borrow.Author.Tests.{eqb-false}
 use Rattle.words.specs.Rows.{Row, refused, weigh}
-use Rattle.request.specs.declared.Refusal.TheVariants.{Form, Bytes, Room}
+use Rattle.request.specs.declared.Refusal.TheVariants.{Room}
 use Rattle.request.specs.Request.{Req}
 use Rattle.request.specs.Refusal.{number_of, place_of, refusal_of, Named}
 use Rattle.request.specs.Rows.{rows}
 use Rattle.request.proofs.Named.{NamedRows, named-of, named-none, named-row, named-++, rows-named}
 use Rattle.sheet.specs.Reader.{form_rows}
+use Rattle.sheet.proofs.Named.{form-named}
 use Rattle.table.specs.Build.{build_rows}
 use Rattle.route.specs.Answer.{back_rows, refusal, said}
 use Rattle.route.specs.declared.Ending.TheVariants as ending
@@ -26,9 +27,6 @@ unfolding NamedRows build_rows
 build-named R a b =
     named-++ (rows R) _ (λ n p. rows-named R n p) (named-row _ _ (λ _. named-of (Room 1)) (named-row _ _ (λ _. named-of (Room 2)) named-none))
 
-forms-named : (s : List ℕ) → NamedRows (form_rows s)
-forms-named s = named-row _ _ (λ _. named-of Bytes) (named-row _ _ (λ _. named-of (Form _)) named-none)
-
 asks-named : (R : Req) (room : ℕ) → NamedRows (request_rows R room)
 unfolding NamedRows request_rows
 asks-named R room =
@@ -36,7 +34,7 @@ asks-named R room =
 
 pub list-named : (s : List ℕ) (room : ℕ) → NamedRows (list_rows s room)
 unfolding list_rows
-list-named s room = named-++ (form_rows s) (request_rows (asks s) room) (forms-named s) (asks-named (asks s) room)
+list-named s room = named-++ (form_rows s) (request_rows (asks s) room) (form-named s) (asks-named (asks s) room)
 
 -- so an answer by such a table that is a refusal says the number and place of the row
 pub answer-says : (rs : List Row) (n p : ℕ) → NamedRows rs → weigh rs ≡ refused n p → number_of (refusal_of n p) ∷ place_of (refusal_of n p) ∷ [] ≡ n ∷ p ∷ []

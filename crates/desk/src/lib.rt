@@ -15,7 +15,7 @@ ghost use Rattle.desk.specs.Calls.{request_from, request_words, request_after, e
 use request::{Refusal, Request};
 use route::Ending;
 
-// number × 2^48 + low: the byte between them is 0.
+// number × 2^48 + low: the byte between them is 0. Numbers, not an enum: this is what C is answered.
 fn pack(number: u32, low: u64) -> u64
     requires { (number < 65536) × (low < 4294967296) }
     ensures { result ≡ pack number 0 low }

@@ -1,4 +1,5 @@
 // The static library for C: the calls of desk, each with its promise, under their names in include/gowkaroo.h.
+// The clauses stand twice: no crate can stand on a static library, and the theorems on the calls are of desk's. tests/names.sh holds the two alike.
 #![tactic(auto)]
 
 ghost use Rattle.std.specs.Prelude.{◌≡◌, length};

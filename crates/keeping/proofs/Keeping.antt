@@ -1,12 +1,12 @@
 -- A label kept word by word. Assumes nothing.
 use Prim.Native.Nat.{ℕ, ◌+◌, ◌≤◌, ◌<◌}
 use mathlib.Core.Path.{◌≡◌, sym, ap, ◌∙◌}
-use mathlib.Core.Bool.{Bool, cond}
+use mathlib.Core.Bool.{Bool, true, false, cond}
 use mathlib.Core.List.{List, [], ◌∷◌, ◌++◌, append_assoc}
 use native.Mathlib.Omega.{arith}
 use lib.ListN.{length, get_or, set, take, drop, replicate, length-append}
 use lib.Seq.{take-take}
-use borrow.Author.Tests.{lt-ltb, le-ltb}
+use lib.Dec.{ltb}
 use Rattle.words.specs.Pieces.{part, write}
 use Rattle.words.proofs.Writes.{length_part, get_or-part, write-part, set-behind, part-more, get_or-write-below}
 use Rattle.rounds.specs.Label.{label}
@@ -40,18 +40,16 @@ module _ (xs : List ℕ) (at to d : ℕ) (below : at + d + 2 ≤ to) (room : to 
   step-word = get_or-part xs at (d + 2) d (omega arith)
 
   -- a filled label
-  pub keep-filled : (get_or xs (at + d) 0 ≡ 0 → ⊥) → write xs to (label (part xs at d) 2 0) ≡ write xs to (keep_words d (part xs at (d + 2)))
+  pub keep-filled : ltb 0 (get_or xs (at + d) 0) ≡ true → write xs to (label (part xs at d) 2 0) ≡ write xs to (keep_words d (part xs at (d + 2)))
   unfolding keep_words
-  keep-filled ne =
-      let e = step-word in
+  keep-filled e =
       ap (λ (l : List ℕ). write xs to (label l 2 0)) (sym (take-take d (d + 2) (drop at xs) (omega arith)))
-      ∙ sym (ap (λ (b : Bool). write xs to (cond b (label (take d (part xs at (d + 2))) 2 0) (replicate (d + 2) 0))) (lt-ltb 0 (get_or (part xs at (d + 2)) d 0) (omega arith)))
+      ∙ sym (ap (λ (b : Bool). write xs to (cond b (label (take d (part xs at (d + 2))) 2 0) (replicate (d + 2) 0))) (ap (ltb 0) step-word ∙ e))
 
   -- an empty one, where an empty one stands
-  pub keep-empty : get_or xs (at + d) 0 ≡ 0 → part xs to (d + 2) ≡ replicate (d + 2) 0 → xs ≡ write xs to (keep_words d (part xs at (d + 2)))
+  pub keep-empty : ltb 0 (get_or xs (at + d) 0) ≡ false → part xs to (d + 2) ≡ replicate (d + 2) 0 → xs ≡ write xs to (keep_words d (part xs at (d + 2)))
   unfolding keep_words
   keep-empty z e =
-      let s = step-word in
-      sym (ap (λ (b : Bool). write xs to (cond b (label (take d (part xs at (d + 2))) 2 0) (replicate (d + 2) 0))) (le-ltb 0 (get_or (part xs at (d + 2)) d 0) (omega arith))
+      sym (ap (λ (b : Bool). write xs to (cond b (label (take d (part xs at (d + 2))) 2 0) (replicate (d + 2) 0))) (ap (ltb 0) step-word ∙ z)
       ∙ ap (write xs to) (sym e)
       ∙ write-part xs to (d + 2))

@@ -6,8 +6,10 @@ ghost use Rattle.words.specs.Pieces.{part, at, write, join};
 ghost use Rattle.rounds.specs.Label.{label};
 ghost use Rattle.rounds.specs.Rounds.{bit};
 ghost use Rattle.rounds.specs.Passing.{quiet};
+ghost use Rattle.rounds.specs.Step.{word_of};
 ghost use Rattle.keeping.specs.Kept.{keep_words, kept_block, Noted, KeptIn, LayersIn, NotedAll};
 
+use rounds::Step;
 use words::clear;
 
 // What is noted of a block: how many of its labels are filled, and a range of cells outside which all are empty or kept. The range is empty,
@@ -28,21 +30,22 @@ pub const UNNOTED: Note = Note {
 
 impl Note {
     // This, and the step of cell c.
-    fn with(self, step: u32, c: usize) -> Note
+    fn with(self, step: Step, c: usize) -> Note
         requires { (self.filled ≤ c) × (c < 1048576) }
-        ensures { (result.filled ≡ self.filled + bit (ltb 0 step)) × (result.low ≡ cond (quiet step) self.low (cond (eqb self.high 0) c self.low)) × (result.high ≡ cond (quiet step) self.high (c + 1)) }
+        ensures { (result.filled ≡ self.filled + bit (ltb 0 (word_of step))) × (result.low ≡ cond (quiet (word_of step)) self.low (cond (eqb self.high 0) c self.low)) × (result.high ≡ cond (quiet (word_of step)) self.high (c + 1)) }
     {
-        match step {
-            0 => self,
-            2 => Note {
-                filled: self.filled + 1,
-                ..self
-            },
-            _ => Note {
-                filled: self.filled + 1,
-                low: if self.high == 0 { c } else { self.low },
-                high: c + 1,
-            },
+        // One kind at a time: one match on all of them becomes a jump table, gone through for each filled label.
+        if !step.is_filled() {
+            return self;
+        }
+        let filled = self.filled + 1;
+        if matches!(step, Step::Kept) {
+            return Note { filled, ..self };
+        }
+        Note {
+            filled,
+            low: if self.high == 0 { c } else { self.low },
+            high: c + 1,
         }
     }
 }
@@ -55,18 +58,18 @@ fn keep_costs(labels: &mut [u32], at: usize, to: usize, d: usize)
     for k in 0..d {
         labels[to + k] = labels[at + k];
     }
-    labels[to + d] = 2;
+    labels[to + d] = Step::Kept.word();
     labels[to + d + 1] = 0;
 }
 
 // The label at `at` is kept at `to`, where an empty one stands: its step. An empty label leaves the empty one there.
-fn keep(labels: &mut [u32], at: usize, to: usize, d: usize) -> u32
+fn keep(labels: &mut [u32], at: usize, to: usize, d: usize) -> Step
     requires { (at + d + 2 ≤ to) × (to + d + 2 ≤ length labels.old) × (part labels.old to (d + 2) ≡ replicate (d + 2) 0) }
     ensures labels_after { labels.new ≡ write labels.old to (keep_words d (part labels.old at (d + 2))) }
-    ensures value { result ≡ get_or (part labels.old at (d + 2)) d 0 }
+    ensures value { word_of result ≡ get_or (part labels.old at (d + 2)) d 0 }
 {
-    let step = labels[at + d];
-    if step != 0 {
+    let step = Step::from(labels[at + d]);
+    if step.is_filled() {
         keep_costs(labels, at, to, d);
     }
     step

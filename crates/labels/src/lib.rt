@@ -6,6 +6,7 @@ ghost use Rattle.rounds.specs.Label.{label, sum};
 ghost use Rattle.labels.specs.Words.{wins_over, Adds, Seeks, FoundAt, SameFrom};
 
 use fences::seek;
+use rounds::Step;
 
 // The candidate that a label's costs, an arc's costs and two words make.
 pub fn add_costs(out: &mut [u32], lab: &[u32], arc: &[u32], d: usize, step: u32, from: u32)
@@ -24,7 +25,7 @@ fn wins(cand: &[u32], cell: &[u32], d: usize) -> bool
     requires { (length cand.now ≡ d + 2) × (length cell.now ≡ d + 2) × (1 ≤ d) }
     ensures { result ≡ wins_over d cand.now cell.now }
 {
-    cell[d] == 0 || cand[d - 1] < cell[d - 1]
+    !Step::from(cell[d]).is_filled() || cand[d - 1] < cell[d - 1]
 }
 
 // A candidate is offered to a cell.
@@ -37,7 +38,7 @@ pub fn place(cell: &mut [u32], cand: &[u32], d: usize)
     }
 }
 
-// The cell of a candidate among the ladders. Its places are looked for from those of the last one, which are lent, and take their
+// The cell of a candidate among the ladders, which stand one after another in the caller's buffer, as their counts say. Its places are looked for from those of the last one, which are lent, and take their
 // place.
 pub fn find_cell(
     cand: &[u32],

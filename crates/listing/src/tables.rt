@@ -7,6 +7,7 @@ ghost use Rattle.rounds.specs.Label.{filled};
 ghost use Rattle.listing.specs.Listing.{last_label, filled_of, filled_last, label_numbers, label_line, node_lines, label_lines, listing_text};
 ghost use Rattle.listing.specs.Print.{asked_in, measured, printed_of, bytes_after};
 
+use rounds::Step;
 use route::{Spot, Store};
 use text::TAB;
 
@@ -42,7 +43,8 @@ impl<'a> LabelTable<'a> {
         ensures { result ≡ filled (asked_in self.now.store) (last_label (asked_in self.now.store) self.now.store.labels.now node cell) }
     {
         let label = self.store.label(self.spot(node, cell));
-        0 < label[self.store.request.criteria as usize]
+        let step = label[self.store.request.criteria as usize];
+        Step::from(step).is_filled()
     }
 
     // The numbers of a label's line, in fixed memory: node, costs, arc count, arc numbers. A broken chain has no arcs.
@@ -59,6 +61,9 @@ impl<'a> LabelTable<'a> {
         words[d + 1] = arcs;
         &words[..d + 2 + arcs as usize]
     }
+
+    // What follows goes over the labels twice, to measure and to write: 13 has to be known before the first byte. One walk with a closure for both is no
+    // plainer: of what a closure wrote nothing would be known.
 
     // How many bytes the line of a label takes, none where the label is empty.
     fn measure_label(&self, node: u32, cell: u32) -> Option<usize>

@@ -9,6 +9,7 @@ use std::io;
 use std::io::{Read, Write};
 
 // How many bytes the print of a sheet has, whatever becomes of writing them; and what became of it.
+// Not a Result of the length: the clause `length` of `print` holds whatever became of the writing.
 #[derive(Drop)]
 pub struct Printing {
     pub length: usize,
@@ -32,6 +33,7 @@ pub fn read_full<R: Read>(input: &mut R, bytes: &mut [u8]) -> io::Result<usize>
     ensures read { IfOk result (λ n. Consumes (R.remaining input.old) (R.remaining input.new) (take n bytes.new)) }
     ensures all { IfOk result (λ n. n < length bytes.new → IsAtEnd (R.remaining input.new)) }
 {
+    // No count by hand: how far each read comes is the reader's to say.
     let mut done = 0;
     while done < bytes.len() {
         let n = input.read(&mut bytes[done..])?;

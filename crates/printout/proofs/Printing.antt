@@ -15,8 +15,9 @@ use Rattle.request.specs.Rows.{rows}
 use Rattle.request.specs.Accepted.{Accepted}
 use Rattle.request.specs.Refusal.{number_of, place_of, refusal_of, Named, answer}
 use Rattle.request.specs.declared.Refusal.{Refusal}
-use Rattle.request.specs.declared.Refusal.TheVariants.{Form, Bytes, Room}
+use Rattle.request.specs.declared.Refusal.TheVariants.{Room}
 use Rattle.request.proofs.Named.{NamedRows, named-none, named-row, named-++, named-of, named-rows}
+use Rattle.sheet.proofs.Named.{form-named}
 use Rattle.sheet.specs.Grammar.{sheet_of}
 use Rattle.sheet.specs.Reader.{words_of, request_of, bad_line, form_rows}
 use Rattle.listing.specs.List.{asks, listing_of, request_rows, list_rows, listed_of, listing_after}
@@ -77,7 +78,7 @@ module _ (s : List ℕ) (room : ℕ) (enough : 53000 ≤ room) where
 refusals-named : (s : List ℕ) → NamedRows (printout_rows s)
 unfolding printout_rows
 refusals-named s =
-    named-++ _ _ (named-row _ _ (λ _. named-of Bytes) (named-row _ _ (λ _. named-of (Form (bad_line (sheet_of s)))) named-none))
+    named-++ _ _ (form-named s)
     (named-++ _ _ (named-rows (asks s)) (named-row _ _ (λ _. named-of (Room 2)) named-none))
 
 by-listing : (w : Weighed) (text bytes : List ℕ) (n : ℕ) → ◌≡◌ {A = Result ℕ Refusal} (Ok n) (answer w (length text))

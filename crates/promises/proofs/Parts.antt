@@ -10,6 +10,7 @@ use Rattle.fences.proofs.Ratio.fill
 use Rattle.request.proofs.Refusal.number
 use Rattle.request.proofs.Refusal.place as place_named
 use Rattle.request.proofs.fill_ladders
+use Rattle.rounds.proofs.Step.is_filled
 use Rattle.rounds.proofs.Step.word as step_word
 use Rattle.labels.proofs.add_costs
 use Rattle.labels.proofs.place
@@ -41,6 +42,9 @@ refusal-place-settled κs a x y v w ok p q = (agree p q, refl)
 -- of a label's step
 pub step-word-settled : Settled step_word.Kinds.ps step_word.Kinds.r step_word.Reads.Asked step_word.Reads.Learnt
 step-word-settled κs a x y v w ok p q = (agree p q, refl)
+
+pub step-is-filled-settled : Settled is_filled.Kinds.ps is_filled.Kinds.r is_filled.Reads.Asked is_filled.Reads.Learnt
+step-is-filled-settled κs a x y v w ok p q = (agree p q, refl)
 
 pub fill-ladders-settled : Settled fill_ladders.Kinds.ps fill_ladders.Kinds.r fill_ladders.Reads.Asked fill_ladders.Reads.Learnt
 fill-ladders-settled κs a x y v w ok p q = (refl, lent (agree p q) refl)

@@ -182,7 +182,8 @@ fn judge_labels(q: Request, b1: u32, b2: u32) -> Result<Shape, Refusal>
     })
 }
 
-// The first refusal of rows 2 to 10 with 17, or the shape of the table.
+// The first refusal of rows 2 to 10 with 17, or the shape of the table. Request and arcs are two parameters, here and wherever a caller gives them:
+// C hands them over apart, and the theorems on the promises name them so.
 pub fn check(q: Request, arcs: &[u32]) -> Result<Shape, Refusal>
     ensures { result ≡ checked_of (asked q arcs.now) }
 {
@@ -191,7 +192,8 @@ pub fn check(q: Request, arcs: &[u32]) -> Result<Shape, Refusal>
     judge_labels(q, counts[0], counts[1])
 }
 
-// The ladders of the given ratios and bucket counts, one after another, at the front of the lent buffer.
+// The ladders of the given ratios and bucket counts, one after another, at the front of the lent buffer. Ratios and counts are words side by side, in
+// fixed memory for two criteria at most, as the request and the shape have them.
 pub fn fill_ladders(ladders: &mut [u32], ratios: [u32; 4], counts: [u32; 2], graded: usize)
     requires { Ladders ratios counts graded (length ladders.old) }
     ensures { ladders.new ≡ write ladders.old 0 (join (λ j. fences (get_or ratios (j * 2) 0) (get_or ratios (j * 2 + 1) 0) (get_or counts j 0 + 1)) graded) }

@@ -8,3 +8,4 @@ pub mod Tries
 pub mod Table
 pub mod Quiet
 pub mod Passing
+pub mod Steps

@@ -2,7 +2,7 @@
 // code. The rounds themselves are run in the crate `table`.
 #![tactic(auto)]
 
-ghost use Rattle.std.specs.Prelude.{◌≡◌, ◌<◌, ◌^◌};
+ghost use Rattle.std.specs.Prelude.{◌≡◌, ◌<◌, ◌^◌, ltb};
 ghost use Rattle.rounds.specs.Step.{step_of, word_of};
 
 // What a label is, by its step word: empty, the start, kept from the layer before, or come by an arc.
@@ -29,6 +29,13 @@ impl From<u32> for Step {
 }
 
 impl Step {
+    // Whether it is not an empty label's.
+    pub fn is_filled(self) -> bool
+        ensures { result ≡ ltb 0 (word_of self) }
+    {
+        !matches!(self, Step::Empty)
+    }
+
     // The word that says it.
     pub fn word(self) -> u32
         requires { word_of self < 2 ^ 32 }

@@ -13,7 +13,8 @@ use request::{Refusal, Request, check};
 pub use store::{Spot, Store};
 use words::word;
 
-// How a read-back ends: a route with its arc count, an empty cell, a refusal.
+// How a read-back ends: a route with its arc count, an empty cell, a refusal. The survey's paper names this form, an enum of the three with the costs
+// beside it, so it is no Result; `find` answers one.
 #[derive(Clone, Copy)]
 pub enum Ending {
     Route(u32),
@@ -86,7 +87,8 @@ fn no_route(ending: Ending) -> Back
 }
 
 // Reads the label of a layer, node and cell back as a route: its arc count and costs, and its arc numbers in travel order
-// at the front of the lent buffer. An empty cell or a refusal leaves the buffer as it came.
+// at the front of the lent buffer. An empty cell or a refusal leaves the buffer as it came. Layer, node and cell come as three numbers: as C asks them, and
+// as the theorems on this promise name them.
 pub fn read_back(
     request: Request,
     arcs: &[u32],

@@ -13,6 +13,7 @@ ghost use Rattle.table.specs.Build.{layer_in, Layered, Notes, Laddered, ladder_w
 
 use keeping::{Note, UNNOTED, keep_layer};
 use request::{Refusal, Request, Shape, check, fill_ladders};
+use rounds::Step;
 use tries::Frame;
 use words::clear;
 
@@ -32,7 +33,7 @@ fn start_layer(s: &Frame, labels: &mut [u32])
     let end = s.request.nodes as usize * s.span;
     clear(&mut labels[..end]);
     let source = s.request.source as usize * s.span;
-    labels[source + s.d] = 1;
+    labels[source + s.d] = Step::Start.word();
 }
 
 // All arcs, in table order, from the layer at `prev` into the layer at `base`, which holds what was kept of it: how many tries.

@@ -130,14 +130,7 @@ fn width(n: u32) -> usize
     ensures value { result ≡ length (digits n) }
     ensures upper_bound { result ≤ 10 }
 {
-    // A division for each digit: the library has no ilog10.
-    let mut w = 1;
-    let mut v = n;
-    while 10 <= v {
-        v /= 10;
-        w += 1;
-    }
-    w
+    n.checked_ilog10().map_or(1, |k| k as usize + 1)
 }
 
 // How many bytes the numbers take, each after a byte that parts fields.
@@ -148,6 +141,9 @@ pub fn widths(vs: &[u32]) -> usize
 {
     vs.iter().map(|v| 1 + width(*v)).sum()
 }
+
+// Below, each function writes from byte `at` on and answers the byte after: a rest handed back as a part would leave the buffer without a last value for
+// the clause. Digits are put by hand: each byte has its place in the lent bytes, and Display would answer for room that is there.
 
 // Writes the bytes of w from byte `at` on; the byte after them.
 fn put_bytes(out: &mut [u8], at: usize, w: &[u8]) -> usize

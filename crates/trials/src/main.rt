@@ -5,7 +5,7 @@ ghost use Rattle.std.specs.Prelude.{◌≡◌, ◌%◌, ◌<◌};
 
 use std::io;
 
-// The value of a decimal digit.
+// The value of a decimal digit. Not by `parse`: these are any four bytes, and each has a value.
 fn digit(byte: u8) -> usize
     ensures { (result ≡ byte % 16 % 10) × (result < 10) }
 {

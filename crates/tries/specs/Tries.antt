@@ -65,7 +65,7 @@ pub record First (d : ℕ) (F : List ℕ) (c high r : ℕ) : Type 0 where
   pub between : AllQuiet d F c r
   pub full : get_or (at (d + 2) F r) d 0 ≡ 0 → ⊥
 
--- the first filled cell from c on, below `high`, that is not kept, or none
+-- such a cell, or none where all from c on are empty or kept
 abbrev pub Fresh : ℕ → List ℕ → ℕ → ℕ → Option ℕ → Type 0
 Fresh d F c high (Some r) = First d F c high r
 Fresh d F c high None = AllQuiet d F c high

@@ -12,6 +12,7 @@ ghost use Rattle.tries.specs.Frame.{Framed};
 
 use labels::{add_costs, find_cell, place};
 use request::Request;
+use rounds::Step;
 
 // An accepted request with its arcs, the ladders that stand at the front of a buffer, and the sizes that the loops go by,
 // worked out once: the criteria, the words of a label, the cells of a node, the words of a node's block, the bucket counts.
@@ -32,7 +33,8 @@ pub struct Frame<'a> {
 fn is_quiet(step: u32) -> bool
     ensures { result ≡ quiet step }
 {
-    step == 0 || step == 2
+    // By words: a match on the Step that the word says takes four instructions more for each cell that the scan passes.
+    step == Step::Empty.word() || step == Step::Kept.word()
 }
 
 impl<'a> Frame<'a> {
@@ -96,7 +98,7 @@ impl<'a> Frame<'a> {
             &labels[at..end],
             &self.arcs[arc_at..arc_end],
             self.d,
-            (a + 3) as u32,
+            Step::Came(a as u32).word(),
             c as u32,
         );
         self.offer_found(labels, &cand[..w], places, to)
@@ -144,12 +146,13 @@ impl<'a> Frame<'a> {
         requires ranged { Ranged (asked_by self.now) (part labels.old from (span (asked_by self.now))) low high }
         ensures { labels.new ≡ write labels.old to (try_arc (asked_by self.now) (part labels.old from (span (asked_by self.now))) a (part labels.old to (span (asked_by self.now)))) }
     {
-        // A copy, which no write to the labels can change: by `self` alone the sizes are loaded again for each cell: a tenth slower.
-        let s = *self;
-        let end = from + s.span;
-        let Some(first) = s.next_fresh(&labels[from..end], low, high) else {
+        let end = from + self.span;
+        let Some(first) = self.next_fresh(&labels[from..end], low, high) else {
             return;
         };
+        // A copy, which no write to the labels can change, made where there is work: with `self` alone the sizes are loaded again for each cell, a tenth
+        // slower. No loop over a range: each next cell is looked for in what the tries before have left.
+        let s = *self;
         let mut places = s.places_of(first);
         let mut next = Some(first);
         while let Some(c) = next {

@@ -4,6 +4,7 @@ use Prim.Native.Nat.{ℕ, ◌+◌, ◌-◌, ◌*◌, ◌<◌}
 use mathlib.Core.List.{List, ◌++◌}
 use lib.ListN.{length, take, drop, replicate}
 use Rattle.words.specs.Pieces.{part}
+use Rattle.rounds.specs.Step.{word_of}
 use Rattle.keeping.specs.Kept.{KeptIn}
 use Rattle.keeping.proofs.Notes.{filled-few}
 use Rattle.keeping.proofs.Blocks.{Cleared, none_kept, clear-lent, along-long, Here, here, place-clear, one_label, all-kept}
@@ -69,7 +70,7 @@ loop-c-preserved c = let a = c.args in
     let y = c.keep-step in
     let z = c.with-noted in
     one_label a.labels.now (cleared-words (goal.at.loop-c-preserved c).At-loop-c) a.n a.d a.prev a.base c.requires (cleared (goal.at.loop-c-preserved c).At-loop-c) l.labels l.noted l.at l.to l.c l.invariant
-    c.loop-c-test.true y.new.labels y.result z.result y.ensures.labels_after y.ensures.value z.ensures
+    c.loop-c-test.true y.new.labels (word_of y.result) z.result y.ensures.labels_after y.ensures.value z.ensures
 
 pub returns : goal.returns
 returns c = let a = c.args in

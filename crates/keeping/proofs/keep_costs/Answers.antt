@@ -2,7 +2,7 @@
 use mathlib.Core.Path.{◌≡◌, refl, sym, ap, ◌∙◌}
 use Prim.Native.Nat.{ℕ, ◌+◌}
 use mathlib.Core.List.{List}
-use lib.ListN.{length-set}
+use lib.ListN.{set, length-set}
 use Rattle.words.specs.Pieces.{part, write}
 use Rattle.words.proofs.Writes.{write-part}
 use Rattle.keeping.proofs.Keeping.{one-cost, two-more}
@@ -29,4 +29,5 @@ returns c = let a = c.args in
     let p = c.requires in
     let l = c.loop-k in
     let e : l.k ≡ a.d = omega arith in
-    two-more a.labels.now a.at a.to a.d p.0 p.1 l.labels (l.invariant.0 ∙ ap (λ (n : ℕ). write a.labels.now a.to (part a.labels.now a.at n)) e)
+    ap (λ (s : ℕ). set (set l.labels (a.to + a.d) s) (a.to + a.d + 1) 0) c.word.ensures
+    ∙ two-more a.labels.now a.at a.to a.d p.0 p.1 l.labels (l.invariant.0 ∙ ap (λ (n : ℕ). write a.labels.now a.to (part a.labels.now a.at n)) e)

@@ -46,5 +46,5 @@ bounds-labels-source c = let s = c.args.s.now in
 
 pub returns : goal.returns
 returns c = let s = c.args.s.now in
-    started s c.args.labels.now _
-    (layer-put s.span s.d s.request.source c.args.labels.now c.clear.new.part s.request.nodes c.requires s.framed.regular.source_in (step-in s) c.clear.ensures)
+    rw c.word.ensures (started s c.args.labels.now _
+    (layer-put s.span s.d s.request.source c.args.labels.now c.clear.new.part s.request.nodes c.requires s.framed.regular.source_in (step-in s) c.clear.ensures))

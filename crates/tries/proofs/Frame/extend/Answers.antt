@@ -31,7 +31,7 @@ module _ (c : After-add_costs) where
 
   -- they hold the candidate
   scratch-is : (let a = c.args in c.add_costs.new.out ≡ made a.self.now a.labels.now a.at a.a a.c)
-  scratch-is = let a = c.args in made-law a.self.now.d a.self.now.w a.at a.a a.c a.labels.now a.self.now.arcs.now c.add_costs.new.out c.add_costs.ensures
+  scratch-is = let a = c.args in made-law a.self.now.d a.self.now.w a.at a.a a.c a.labels.now a.self.now.arcs.now c.add_costs.new.out (rw c.word.ensures at c.add_costs.ensures)
 
 pub slice_bounds-add_costs-end : goal.slice_bounds-add_costs-end
 slice_bounds-add_costs-end c = sym (front_long c.args.self.now)
