@@ -1,6 +1,7 @@
 -- The labels of a table's last layer: each stands whole inside the table's words. Assumes nothing.
 use Prim.Native.Nat.{ℕ, ◌+◌, ◌*◌, ◌≤◌, ◌<◌}
 use mathlib.Core.Path.{◌≡◌, sym, ap, ◌∙◌}
+use mathlib.Core.Bool.{Bool}
 use mathlib.Core.List.{List}
 use native.Mathlib.Nat.{mul-le-mul, mul_assoc, add-mul, one-mul}
 use native.Mathlib.Omega.{arith}
@@ -14,7 +15,7 @@ use Rattle.request.specs.Request.{Req, asked, width}
 use Rattle.request.specs.Shape.{cells, label_count}
 use Rattle.request.specs.Accepted.{Regular, Small, Fits}
 use Rattle.rounds.specs.Rounds.{label_in}
-use Rattle.rounds.specs.Label.{costs}
+use Rattle.rounds.specs.Label.{costs, filled}
 use Rattle.listing.specs.Listing.{last_label}
 use Rattle.listing.specs.Print.{asked_in}
 use Rattle.route.specs.declared.store.Spot.{Spot}
@@ -85,6 +86,12 @@ module _ (q : Request) (arcs W : List ℕ) (C : ℕ) (ok : Tabled (asked q arcs)
     costs-long = length-take-le q.criteria (last_label (asked q arcs) W v c) (omega (arith, label-long))
 
 -- ---- as a table's methods find them
+
+-- what is answered of the label at its spot is answered of the label
+pub spot-filled : (t : LabelTable) (v c : ℕ) (s : Spot) (b : Bool) → s ≡ record { layer = t.store.request.hops; node = v; cell = c }
+    → b ≡ filled (asked_in t.store) (label_in (asked_in t.store) t.store.labels.now s.layer s.node s.cell) → b ≡ filled (asked_in t.store) (last_label (asked_in t.store) t.store.labels.now v c)
+unfolding last_label
+spot-filled t v c s b e f = f ∙ ap (λ (s : Spot). filled (asked_in t.store) (label_in (asked_in t.store) t.store.labels.now s.layer s.node s.cell)) e
 
 module _ (t : LabelTable) (v c : ℕ) (hv : v < t.store.request.nodes) (hc : c < t.store.cells) where
   -- the words at the label's spot are the label

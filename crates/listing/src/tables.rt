@@ -3,11 +3,9 @@ ghost use Rattle.std.specs.Prelude.{◌≡◌, ◌+◌, ◌*◌, ◌≤◌, ◌<
 ghost use Rattle.words.specs.Pieces.{write};
 ghost use Rattle.request.specs.Request.{width};
 ghost use Rattle.request.specs.Shape.{label_count};
-ghost use Rattle.rounds.specs.Label.{filled};
-ghost use Rattle.listing.specs.Listing.{last_label, filled_of, filled_last, label_numbers, label_line, node_lines, label_lines, listing_text};
+ghost use Rattle.listing.specs.Listing.{filled_of, filled_last, label_numbers, label_line, node_lines, label_lines, listing_text};
 ghost use Rattle.listing.specs.Print.{asked_in, measured, printed_of, bytes_after};
 
-use rounds::Step;
 use route::{Spot, Store};
 use text::TAB;
 
@@ -26,7 +24,7 @@ struct Measure {
 }
 
 impl<'a> LabelTable<'a> {
-    // The place of the label of the last layer, of this node and cell.
+    // The place of the label of the last layer, of this node and cell. What follows takes these two numbers: given a Spot, each would ask for the last layer.
     fn spot(&self, node: u32, cell: u32) -> Spot
         ensures { result ≡ record { layer = self.now.store.request.hops; node = node; cell = cell } }
     {
@@ -35,16 +33,6 @@ impl<'a> LabelTable<'a> {
             node,
             cell,
         }
-    }
-
-    // Whether the label of this node and cell is filled.
-    fn is_filled(&self, node: u32, cell: u32) -> bool
-        requires { (node < self.now.store.request.nodes) × (cell < self.now.store.cells) }
-        ensures { result ≡ filled (asked_in self.now.store) (last_label (asked_in self.now.store) self.now.store.labels.now node cell) }
-    {
-        let label = self.store.label(self.spot(node, cell));
-        let step = label[self.store.request.criteria as usize];
-        Step::from(step).is_filled()
     }
 
     // The numbers of a label's line, in fixed memory: node, costs, arc count, arc numbers. A broken chain has no arcs.
@@ -71,7 +59,7 @@ impl<'a> LabelTable<'a> {
         ensures value { result ≡ measured (asked_in self.now.store) self.now.store.labels.now node cell }
         ensures upper_bound { IfSome result (λ bytes. bytes ≤ 754) }
     {
-        if !self.is_filled(node, cell) {
+        if !self.store.is_filled(self.spot(node, cell)) {
             return None;
         }
         let mut words = [0u32; 68];
@@ -118,7 +106,7 @@ impl<'a> LabelTable<'a> {
         ensures value { result ≡ at + length (label_line (asked_in self.now.store) self.now.store.labels.now node cell) }
         ensures listing_after { listing.new ≡ write listing.old at (label_line (asked_in self.now.store) self.now.store.labels.now node cell) }
     {
-        if !self.is_filled(node, cell) {
+        if !self.store.is_filled(self.spot(node, cell)) {
             return at;
         }
         let mut words = [0u32; 68];

@@ -11,8 +11,18 @@ use Rattle.words.specs.Pieces.{at}
 use Rattle.words.specs.Rows.{Row, clear, refused, weigh, each}
 use Rattle.words.proofs.Choices.{cond_cases, cond-true, cond-false, or_left, or_right, or-neither}
 use Rattle.words.proofs.Rows.{either, refused-not-clear, weigh-none, weigh-held, weigh-passed, clear-cons, each-refused}
-use Rattle.request.specs.Rows.{outside, size_rows, ratio_row, arc_words_row, arc_fault, fault_row, arc_row}
+use Rattle.request.specs.Rows.{outside, criteria_row, size_rows, ratio_row, arc_words_row, arc_fault, fault_row, arc_row}
 use Rattle.request.proofs.Tests.{lt-holds, lt-fails, le-holds, le-fails}
+
+-- a row that alone is clear does not hold, and one that alone refuses does
+pub row-passed : (r : Row) → weigh (r ∷ []) ≡ clear → T (not r.holds)
+row-passed r e = (clear-cons r [] e).0
+
+pub row-held : (r : Row) (f p : ℕ) → weigh (r ∷ []) ≡ refused f p → T r.holds × (refused r.number r.place ≡ refused f p)
+row-held r f p e =
+    either (T r.holds × (refused r.number r.place ≡ refused f p)) r.holds
+    (λ t. (t, sym (weigh-held r [] t) ∙ e))
+    (λ t. absurd (refused-not-clear f p (sym e ∙ weigh-passed r [] t ∙ weigh-none)))
 
 -- ---- rows 2 to 5
 
@@ -21,9 +31,9 @@ module _ (n d s k : ℕ) where
   unfolding size_rows
   sizes-2 t = weigh-held _ _ t
 
-  pub sizes-3 : T (not (outside 1 64 n)) → T (outside 2 3 d) → weigh (size_rows n d s k) ≡ refused 3 0
+  pub sizes-3 : (f p : ℕ) → T (not (outside 1 64 n)) → weigh (criteria_row d ∷ []) ≡ refused f p → weigh (size_rows n d s k) ≡ refused f p
   unfolding size_rows
-  sizes-3 a t = weigh-passed _ _ a ∙ weigh-held _ _ t
+  sizes-3 f p a e = let held = row-held (criteria_row d) f p e in weigh-passed _ _ a ∙ weigh-held _ _ held.0 ∙ held.1
 
   pub sizes-4 : T (not (outside 1 64 n)) → T (not (outside 2 3 d)) → n ≤ s → weigh (size_rows n d s k) ≡ refused 4 0
   unfolding size_rows
@@ -146,16 +156,6 @@ module _ (n d : ℕ) (arcs : List ℕ) (a : ℕ) where
   unfolding arc_row
   arcs-refused m f l e pos h =
       each-refused (arc_row n d arcs) m a l (lt-holds (rw e at pos)) h ∙ ap (λ (z : ℕ). refused z a) (sym e)
-
--- a row that alone is clear does not hold, and one that alone refuses does
-pub row-passed : (r : Row) → weigh (r ∷ []) ≡ clear → T (not r.holds)
-row-passed r e = (clear-cons r [] e).0
-
-pub row-held : (r : Row) (f p : ℕ) → weigh (r ∷ []) ≡ refused f p → T r.holds × (refused r.number r.place ≡ refused f p)
-row-held r f p e =
-    either (T r.holds × (refused r.number r.place ≡ refused f p)) r.holds
-    (λ t. (t, sym (weigh-held r [] t) ∙ e))
-    (λ t. absurd (refused-not-clear f p (sym e ∙ weigh-passed r [] t ∙ weigh-none)))
 
 -- the arc's words are w: its row alone, in its place among the arcs
 module _ (n d : ℕ) (arcs : List ℕ) (a : ℕ) (w : List ℕ) (is : w ≡ at (d + 2) arcs a) where

@@ -10,11 +10,15 @@ use Rattle.request.specs.Shape.{buckets, label_count}
 unfoldable pub outside : ℕ → ℕ → ℕ → Bool
 outside lo hi n = ltb n lo || ltb hi n
 
+-- row 3: "Criteria d 2 or 3"
+abbrev pub criteria_row : ℕ → Row
+criteria_row d = record { number = 3; holds = outside 2 3 d; place = 0 }
+
 -- rows 2 to 5: N, d, source not below N, K
 unfoldable pub size_rows : ℕ → ℕ → ℕ → ℕ → List Row
 size_rows n d s k =
     record { number = 2; holds = outside 1 64 n; place = 0 }
-    ∷ record { number = 3; holds = outside 2 3 d; place = 0 }
+    ∷ criteria_row d
     ∷ record { number = 4; holds = leb n s; place = 0 }
     ∷ record { number = 5; holds = outside 0 63 k; place = 0 }
     ∷ []

@@ -17,6 +17,10 @@ ghost use Rattle.request.specs.Accepted.{Regular, Small};
 
 use fences::Ratio;
 use weigh::weigh_asked;
+pub use weigh::{weigh_arc_words, weigh_criteria};
+
+// A request has at most so many arcs.
+pub const MOST_ARCS: u32 = 512;
 
 // A refusal: a row of document 01's table, with its place where the row names one.
 #[derive(Clone, Copy)]

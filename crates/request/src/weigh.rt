@@ -2,16 +2,26 @@
 ghost use Rattle.std.specs.Prelude.{◌≡◌, [], ◌∷◌, ◌++◌, ◌+◌, ◌/◌, ◌≤◌, ◌<◌, length};
 ghost use Rattle.words.specs.Rows.{weigh, each};
 ghost use Rattle.request.specs.Request.{asked};
-ghost use Rattle.request.specs.Rows.{outside, size_rows, ratio_row, arc_words_row, arc_fault, fault_row, arc_row, ask_rows, arc_rows};
+ghost use Rattle.request.specs.Rows.{outside, criteria_row, size_rows, ratio_row, arc_words_row, arc_fault, fault_row, arc_row, ask_rows, arc_rows};
 ghost use Rattle.request.specs.Refusal.{said};
 
-use crate::{Refusal, Request};
+use crate::{MOST_ARCS, Refusal, Request};
 
 // Whether n is outside lo to hi.
 fn outside(lo: u32, hi: u32, n: u32) -> bool
     ensures { result ≡ outside lo hi n }
 {
     n < lo || hi < n
+}
+
+// Row 3.
+pub fn weigh_criteria(d: u32) -> Result<(), Refusal>
+    ensures { said result ≡ weigh (criteria_row d ∷ []) }
+{
+    if outside(2, 3, d) {
+        return Err(Refusal::Criteria);
+    }
+    Ok(())
 }
 
 // Rows 2 to 5.
@@ -21,9 +31,7 @@ fn weigh_sizes(q: Request) -> Result<(), Refusal>
     if outside(1, 64, q.nodes) {
         return Err(Refusal::Nodes);
     }
-    if outside(2, 3, q.criteria) {
-        return Err(Refusal::Criteria);
-    }
+    weigh_criteria(q.criteria)?;
     if q.nodes <= q.source {
         return Err(Refusal::Source);
     }
@@ -48,12 +56,12 @@ fn weigh_ratios(ratios: [u32; 4], graded: usize) -> Result<(), Refusal>
     Ok(())
 }
 
-// Row 7.
-fn weigh_arc_words(words: usize, width: usize) -> Result<(), Refusal>
+// Row 7, of so many arc words of width d + 2.
+pub fn weigh_arc_words(words: usize, width: usize) -> Result<(), Refusal>
     requires { 0 < width }
     ensures { said result ≡ weigh (arc_words_row words width ∷ []) }
 {
-    if 0 < words % width || 512 < words / width {
+    if 0 < words % width || (MOST_ARCS as usize) < words / width {
         return Err(Refusal::ArcWords);
     }
     Ok(())

@@ -1,7 +1,7 @@
 -- What a start, a kept label and an arc label are that hold, fact by fact; and each test from its facts. Assumes nothing.
 use Prim.Native.Nat.{ℕ, ◌≤◌, ◌<◌}
 use mathlib.Core.Path.{◌≡◌, sym, ap, ◌∙◌, subst}
-use mathlib.Core.Bool.{Bool, false, not, ◌&&◌}
+use mathlib.Core.Bool.{Bool, true, not, ◌&&◌}
 use mathlib.Core.List.{List}
 use native.Mathlib.Nat.{lt_of_not-le}
 use native.Mathlib.Omega.{arith}
@@ -43,9 +43,9 @@ module _ (R : Req) (l : List ℕ) where
   costs-inside h = let n = word-inside l R.criteria h in omega arith
 
   -- and so are those of a filled label reached
-  pub reached-inside : false ≡ not (filled R l) → R.criteria ≤ length l
+  pub reached-inside : filled R l ≡ true → R.criteria ≤ length l
   unfolding filled
-  reached-inside e = costs-inside (λ z. clash (e ∙ ap (λ (w : ℕ). not (ltb 0 w)) z))
+  reached-inside e = costs-inside (λ z. clash (ap (ltb 0) (sym z) ∙ e))
 
 -- ---- the costs of the label reached
 

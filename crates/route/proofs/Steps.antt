@@ -1,16 +1,17 @@
 -- A step word from the kind of label that it says. Assumes nothing.
-use Prim.Native.Nat.{ℕ, zero, suc, ◌-◌, ◌≤◌, ◌<◌}
-use mathlib.Core.Path.{◌≡◌, refl, sym, ap}
-use mathlib.Core.Bool.{true, false, not}
+use Prim.Native.Nat.{ℕ, zero, suc, ◌-◌, ◌≤◌}
+use mathlib.Core.Path.{◌≡◌, refl, ◌∙◌}
+use mathlib.Core.Bool.{Bool}
 use mathlib.Core.List.{List}
 use native.Mathlib.Omega.{arith}
 use lib.Dec.{ltb}
-use borrow.Author.Tests.{ne_eqb, lt-ltb}
+use borrow.Author.Tests.{ne_eqb}
 use Rattle.request.specs.Request.{Req}
 use Rattle.rounds.specs.Label.{step, filled}
-use Rattle.rounds.specs.Step.{step_of}
+use Rattle.rounds.specs.Step.{step_of, word_of}
 use Rattle.rounds.specs.declared.Step.{Step}
 use Rattle.rounds.specs.declared.Step.TheVariants.{Empty, Start, Kept, Came}
+use Rattle.rounds.proofs.Steps.{filled-is}
 
 -- from 3 on it names an arc
 names-arc : (w : ℕ) → 3 ≤ w → step_of w ≡ Came (w - 3)
@@ -49,19 +50,7 @@ empty-word (suc zero) e = cc
 empty-word (suc (suc zero)) e = cc
 empty-word (suc (suc (suc n))) e = let q = names-arc (suc (suc (suc n))) (omega arith) in cc
 
--- and no other label's
-pub other-word : (w : ℕ) (s : Step) → s ≡ step_of w → (s ≡ Empty → ⊥) → 0 < w
-unfolding step_of
-other-word zero s e h = absurd (h e)
-other-word (suc n) s e h = omega arith
-
--- ---- of a label
-
-module _ (R : Req) (l : List ℕ) where
-  pub told-empty : Empty ≡ step_of (step R l) → true ≡ not (filled R l)
-  unfolding filled
-  told-empty e = sym (ap (λ (w : ℕ). not (ltb 0 w)) (empty-word (step R l) e))
-
-  pub told_filled : (s : Step) → s ≡ step_of (step R l) → (s ≡ Empty → ⊥) → false ≡ not (filled R l)
-  unfolding filled
-  told_filled s e h = sym (ap not (lt-ltb 0 (step R l) (other-word (step R l) s e h)))
+-- what a label's step word says is filled as the label is
+pub told-filled : (R : Req) (l : List ℕ) (s : Step) (b : Bool) → s ≡ step_of (step R l) → b ≡ ltb 0 (word_of s) → b ≡ filled R l
+unfolding filled
+told-filled R l s b e f = f ∙ filled-is (step R l) s e

@@ -1,8 +1,8 @@
 // What a label is that holds: the tests of the three kinds, on words that may end too soon.
-ghost use Rattle.std.specs.Prelude.{◌≡◌, ◌+◌, ◌*◌, ◌≤◌, not, length, take, drop};
+ghost use Rattle.std.specs.Prelude.{◌≡◌, ◌+◌, ◌*◌, ◌≤◌, length, take, drop};
 ghost use Rattle.words.specs.Pieces.{at};
 ghost use Rattle.request.specs.Request.{asked};
-ghost use Rattle.rounds.specs.Label.{step, filled, sum};
+ghost use Rattle.rounds.specs.Label.{step, sum};
 ghost use Rattle.rounds.specs.Step.{step_of};
 ghost use Rattle.route.specs.Chain.{same, start_holds, kept_holds, arc_holds};
 
@@ -42,13 +42,6 @@ impl Store<'_> {
         Step::from(word(l, self.request.criteria as usize))
     }
 
-    // Whether a label is empty.
-    pub(crate) fn is_empty(&self, l: &[u32]) -> bool
-        ensures { result ≡ not (filled (asked self.now.request self.now.arcs.now) l.now) }
-    {
-        matches!(self.step(l), Step::Empty)
-    }
-
     // Whether the label of a spot, a start, holds.
     pub(crate) fn start_holds(&self, l: &[u32], spot: Spot) -> bool
         requires { step (asked self.now.request self.now.arcs.now) l.now ≡ 1 }
@@ -70,7 +63,7 @@ impl Store<'_> {
     {
         let d = self.request.criteria as usize;
         let from = word(l, d + 1);
-        0 < spot.layer && from == 0 && (self.is_empty(reached) || l[..d] == reached[..d])
+        0 < spot.layer && from == 0 && (!self.step(reached).is_filled() || l[..d] == reached[..d])
     }
 
     // Whether the label of a spot, which came by an arc, holds, where `reached` is the label of the spot that it came from.
@@ -86,6 +79,6 @@ impl Store<'_> {
             && (arc as usize) < self.arcs.len() / (d + 2)
             && head == spot.node
             && from < self.cells
-            && (self.is_empty(reached) || costs_add_up(l, reached, words, d))
+            && (!self.step(reached).is_filled() || costs_add_up(l, reached, words, d))
     }
 }

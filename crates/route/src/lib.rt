@@ -66,11 +66,10 @@ fn find(
         labels,
         cells,
     };
-    let l = store.label(spot);
-    if store.is_empty(l) {
+    if !store.is_filled(spot) {
         return Ok(None);
     }
-    let costs = &l[..d];
+    let costs = &store.label(spot)[..d];
     let costs = [word(costs, 0), word(costs, 1), word(costs, 2)];
     let count = store.follow(spot, route)?;
     Ok(Some(Found { count, costs }))

@@ -4,6 +4,7 @@ ghost use Rattle.words.specs.Pieces.{write};
 ghost use Rattle.request.specs.Request.{asked, reach};
 ghost use Rattle.request.specs.Shape as shape;
 ghost use Rattle.request.specs.Accepted.{Regular, Small, Fits};
+ghost use Rattle.rounds.specs.Label.{filled};
 ghost use Rattle.rounds.specs.Rounds.{label_in};
 ghost use Rattle.route.specs.Chain.{chain};
 ghost use Rattle.route.specs.Links.{link_of, trail_of};
@@ -54,6 +55,14 @@ impl<'a> Store<'a> {
         let node = spot.layer as usize * q.nodes as usize + spot.node as usize;
         let at = node * self.cells as usize + spot.cell as usize;
         piece(self.labels, at, q.criteria as usize + 2)
+    }
+
+    // Whether the label of a spot is filled.
+    pub fn is_filled(&self, spot: Spot) -> bool
+        requires { spot.layer ≤ self.now.request.hops }
+        ensures { result ≡ filled (asked self.now.request self.now.arcs.now) (label_in (asked self.now.request self.now.arcs.now) self.now.labels.now spot.layer spot.node spot.cell) }
+    {
+        self.step(self.label(spot)).is_filled()
     }
 
     // Where the label of a spot leads, or the layer in which the chain breaks.

@@ -10,7 +10,14 @@ use borrow.Author.Tests.{lt-ltb, le-ltb}
 use Rattle.words.specs.Pieces.{write}
 use Rattle.words.proofs.Choices.{lt-or-le}
 use Rattle.words.proofs.Writes.{write-front, spelled-all}
+use Rattle.words.specs.Rows.{weigh}
 use Rattle.request.specs.declared.Request.{Request}
+use Rattle.request.specs.declared.Refusal.{Refusal}
+use Rattle.request.specs.Refusal.{number_of, place_of, said}
+use Rattle.request.specs.Rows.{outside, criteria_row}
+use Rattle.request.proofs.Tests.{not-outside}
+use Rattle.request.proofs.Branches.{row-passed, row-held}
+use lib.Dec.{T}
 use Rattle.text.specs.declared.Fault.{Fault}
 use Rattle.text.specs.Line.{Got, good, bad, line_of, answer_of, taken_of}
 use Rattle.text.proofs.Written.{line_of-was}
@@ -37,6 +44,23 @@ no-fault (Err f) x e = let z : ◌≡◌ {A = ℕ} 0 1 = cc in absurd (omega ari
 pub no-err : (r : Result Unit Fault) → is_err r ≡ false → r ≡ Ok tt
 no-err (Ok u) e = refl
 no-err (Err f) e = let z : ◌≡◌ {A = ℕ} 0 1 = cc in absurd (omega arith)
+
+-- ---- what the weighing of row 3 tells
+
+-- d is 2 or 3, where it does not refuse
+pub criteria-in : (d : ℕ) (r : Result Unit Refusal) → said r ≡ weigh (criteria_row d ∷ []) → is_err r ≡ false → (2 ≤ d) × (d ≤ 3)
+criteria-in d (Ok u) s e = not-outside 2 3 d (row-passed (criteria_row d) (sym s))
+criteria-in d (Err f) s e = let z : ◌≡◌ {A = ℕ} 0 1 = cc in absurd (omega arith)
+
+-- and another number, where it refuses
+pub criteria-out : (d : ℕ) (r : Result Unit Refusal) → said r ≡ weigh (criteria_row d ∷ []) → is_err r ≡ true → (d ≡ 2 → ⊥) × (d ≡ 3 → ⊥)
+unfolding outside
+criteria-out d (Ok u) s e = let z : ◌≡◌ {A = ℕ} 0 1 = cc in absurd (omega arith)
+criteria-out d (Err f) s e =
+    let held = (row-held (criteria_row d) (number_of f) (place_of f) (sym s)).0 in
+    (λ q. absurd (subst (λ (x : ℕ). T (outside 2 3 x)) q held), λ q. absurd (subst (λ (x : ℕ). T (outside 2 3 x)) q held))
+
+-- ---- what a line's reader tells of its numbers
 
 -- its answer r says of the line, at the count n that the lent part has
 module _ (word : List ℕ) (n k : ℕ) (line : List ℕ) (r : Result Unit Fault) (h : r ≡ answer_of (line_of tab word k line)) (e : k ≡ n) where

@@ -1,19 +1,20 @@
 -- The writer's answer by its refusal table, and that an answer's numbers tell the answer. Assumes nothing.
 use Prim.Native.Nat.{ℕ, ◌+◌, ◌/◌, ◌%◌, ◌≤◌, ◌<◌}
 use mathlib.Core.Path.{◌≡◌, refl, ap, ◌∙◌, sym}
-use mathlib.Core.List.{List}
-use mathlib.Core.Bool.{Bool, true, false, ◌||◌}
-use mathlib.Core.Logic.{◌⊎◌, inl, inr}
+use mathlib.Core.List.{List, [], ◌∷◌}
+use mathlib.Core.Bool.{true, false}
 use native.Mathlib.Omega.{arith}
 use lib.ListN.{length, drop}
-use lib.Dec.{ltb}
+use lib.Dec.{ltb, nltb→le}
 use borrow.Author.Tests.{lt-ltb, le-ltb}
 use Rattle.words.specs.Pieces.{write}
 use Rattle.words.specs.Rows.{Row, clear, refused, weigh}
-use Rattle.words.proofs.Rows.{weigh-held, weigh-passed, weigh-none}
-use Rattle.words.proofs.Choices.{true-is, false-is}
+use Rattle.words.proofs.Rows.{weigh-held, weigh-passed, weigh-none, weigh-append, weigh-front}
+use Rattle.words.proofs.Choices.{true-is, false-is, or-neither, nor-left, nor-right}
 use Rattle.request.specs.declared.Request.{Request}
-use Rattle.request.specs.Rows.{outside, arc_words_row}
+use Rattle.request.specs.Rows.{outside, criteria_row, arc_words_row}
+use Rattle.request.proofs.Tests.{lt-fails, not-outside}
+use Rattle.request.proofs.Branches.{row-passed, words-good}
 use Rattle.text.specs.Number.{any_over}
 use Rattle.request.specs.declared.Refusal.{Refusal}
 use Rattle.request.specs.declared.Refusal.TheVariants as refusal
@@ -31,20 +32,29 @@ writing-said-once (Ok m) (Err r) e = absurd (omega (arith, ap (length {A = ℕ})
 writing-said-once (Err r) (Ok n) e = absurd (omega (arith, ap (length {A = ℕ}) e))
 writing-said-once (Err q) (Err r) e = ap Err (same-refusal q r e)
 
--- ---- the tests of rows 3 and 7
+-- ---- rows 3 and 7 alone
 
--- the second holds
-or-true : (a : Bool) → (a || true) ≡ true
-or-true true = refl
-or-true false = refl
+-- d and the arcs are in range, where neither holds
+pub ranged : (d : ℕ) (words : List ℕ) → weigh (criteria_row d ∷ []) ≡ clear → weigh (arc_words_row (length words) (d + 2) ∷ []) ≡ clear → Ranged d words
+unfolding arc_words_row
+ranged d words three seven =
+    let w = d + 2 in
+    let in-range = not-outside 2 3 d (row-passed _ three) in
+    let t = row-passed _ seven in
+    record {
+      at_least = in-range.0;
+      at_most = in-range.1;
+      multiple = (let h = nltb→le 0 (length words % w) (nor-left (ltb 0 (length words % w)) (ltb 512 (length words / w)) t) in omega arith);
+      arcs = nltb→le 512 (length words / w) (nor-right (ltb 0 (length words % w)) (ltb 512 (length words / w)) t);
+    }
 
--- the first holds
-either_true : (a b : Bool) → a ≡ true → (a || b) ≡ true
-either_true a b e = ap (λ (t : Bool). t || b) e
+-- and neither holds, where they are in range
+criteria-clear : (d : ℕ) (words : List ℕ) → Ranged d words → weigh (criteria_row d ∷ []) ≡ clear
+unfolding outside
+criteria-clear d words g = weigh-passed (criteria_row d) [] (or-neither (ltb d 2) (ltb 3 d) (lt-fails g.at_least) (lt-fails g.at_most)) ∙ weigh-none
 
--- neither holds
-neither-true : (a b : Bool) → a ≡ false → b ≡ false → (a || b) ≡ false
-neither-true a b e f = ap (λ (t : Bool). t || b) e ∙ f
+arc-words-clear : (d : ℕ) (words : List ℕ) → Ranged d words → weigh (arc_words_row (length words) (d + 2) ∷ []) ≡ clear
+arc-words-clear d words g = words-good (length words) (d + 2) (omega (arith, g.multiple)) g.arcs
 
 -- ---- the first row that holds
 
@@ -63,37 +73,24 @@ module _ (r : Request) (words sheet : List ℕ) where
   unfolding write_says sheet_after
   refuses q e = record { value = rw e refl; bytes = rw e refl }
 
+  -- row 3 alone, and row 7 alone
+  abbrev Three : List Row
+  Three = criteria_row r.criteria ∷ []
+
+  abbrev Seven : List Row
+  Seven = arc_words_row (length words) (r.criteria + 2) ∷ []
+
   -- row 3
-  pub writes-outside : (r.criteria < 2) ⊎ (3 < r.criteria) → Writes (Err refusal.Criteria) sheet
-  unfolding outside
-  writes-outside h = refuses refusal.Criteria (weigh-held _ _ (true-is (holds h)))
-    where
-      holds : (r.criteria < 2) ⊎ (3 < r.criteria) → (ltb r.criteria 2 || ltb 3 r.criteria) ≡ true
-      holds (inl h) = either_true (ltb r.criteria 2) (ltb 3 r.criteria) (lt-ltb r.criteria 2 h)
-      holds (inr h) = ap (λ (t : Bool). ltb r.criteria 2 || t) (lt-ltb 3 r.criteria h) ∙ or-true (ltb r.criteria 2)
+  pub writes-outside : (q : Refusal) → weigh Three ≡ refused (number_of q) (place_of q) → Writes (Err q) sheet
+  writes-outside q e = refuses q (weigh-front Three (drop 1 rows) (number_of q) (place_of q) e)
 
-  module _ (lo : 2 ≤ r.criteria) (hi : r.criteria ≤ 3) where
-    past-d : weigh rows ≡ weigh (drop 1 rows)
-    unfolding outside
-    past-d = weigh-passed _ _ (false-is (neither-true (ltb r.criteria 2) (ltb 3 r.criteria) (le-ltb r.criteria 2 lo) (le-ltb 3 r.criteria hi)))
-
-    -- row 7
-    pub writes-uneven : (length words % (r.criteria + 2) ≡ 0 → ⊥) ⊎ (512 < length words / (r.criteria + 2)) → Writes (Err refusal.ArcWords) sheet
-    unfolding arc_words_row
-    writes-uneven h = refuses refusal.ArcWords (past-d ∙ weigh-held _ _ (true-is (holds h)))
-      where
-        holds : (length words % (r.criteria + 2) ≡ 0 → ⊥) ⊎ (512 < length words / (r.criteria + 2))
-            → (ltb 0 (length words % (r.criteria + 2)) || ltb 512 (length words / (r.criteria + 2))) ≡ true
-        holds (inl h) = either_true (ltb 0 (length words % (r.criteria + 2))) (ltb 512 (length words / (r.criteria + 2))) (lt-ltb 0 (length words % (r.criteria + 2)) (omega arith))
-        holds (inr h) = ap (λ (t : Bool). ltb 0 (length words % (r.criteria + 2)) || t) (lt-ltb 512 (length words / (r.criteria + 2)) h) ∙ or-true (ltb 0 (length words % (r.criteria + 2)))
+  -- row 7
+  pub writes-uneven : (q : Refusal) → weigh Three ≡ clear → weigh Seven ≡ refused (number_of q) (place_of q) → Writes (Err q) sheet
+  writes-uneven q three e = refuses q (weigh-append Three (drop 1 rows) three ∙ weigh-front Seven (drop 2 rows) (number_of q) (place_of q) e)
 
   module _ (g : Ranged r.criteria words) where
     past-arcs : weigh rows ≡ weigh (drop 2 rows)
-    unfolding arc_words_row
-    past-arcs =
-        past-d g.at_least g.at_most
-        ∙ weigh-passed _ _ (false-is (neither-true (ltb 0 (length words % (r.criteria + 2))) (ltb 512 (length words / (r.criteria + 2)))
-        (le-ltb 0 (length words % (r.criteria + 2)) (omega (arith, g.multiple))) (le-ltb 512 (length words / (r.criteria + 2)) g.arcs)))
+    past-arcs = weigh-append Three (drop 1 rows) (criteria-clear r.criteria words g) ∙ weigh-append Seven (drop 2 rows) (arc-words-clear r.criteria words g)
 
     -- row 11
     pub writes-large : any_over (numbers_of r words) ≡ true → Writes (Err refusal.Digits) sheet

@@ -4,7 +4,7 @@ use Rattle.words.specs.Pieces.{write}
 use Rattle.words.specs.Rows.{Row, weigh, settle}
 use Rattle.request.specs.declared.Request.{Request}
 use Rattle.request.specs.declared.Refusal.{Refusal}
-use Rattle.request.specs.Rows.{outside, arc_words_row}
+use Rattle.request.specs.Rows.{criteria_row, arc_words_row}
 use Rattle.text.specs.Number.{any_over}
 use Rattle.sheet.specs.Rendering.{arc_lines, sheet_text}
 use Rattle.sheet.specs.Answer.{refusal_said, counted, told}
@@ -40,7 +40,7 @@ pub record Ranged (d : ℕ) (words : List ℕ) : Type 0 where
 abbrev pub writer_rows : Request → List ℕ → ℕ → List Row
 writer_rows r words room =
     -- "3: d" (a row that only names a number means that it is outside Sizes: "Criteria d 2 or 3")
-    record { number = 3; holds = outside 2 3 r.criteria; place = 0 }
+    criteria_row r.criteria
     -- "7: arc words not a multiple of d+2, or over 512 arcs", as in the build
     ∷ arc_words_row (length words) (r.criteria + 2)
     -- "11: writer: a number to be written is over 99,999,999"

@@ -6,12 +6,9 @@ ghost use Rattle.sheet.specs.Grammar.{tab, arc_word, arc_line, ask_line, kind_of
 ghost use Rattle.sheet.specs.Inside.{is_good, ask_kind, line_kind, form_of};
 ghost use Rattle.sheet.specs.Reader.{said, words_of, read_says, read_request, arcs_after};
 
-use crate::Reading;
-use request::{Refusal, Request};
+use crate::{MOST_BYTES, Reading};
+use request::{MOST_ARCS, Refusal, Request, weigh_criteria};
 use text::{Fault, LF, TAB};
-
-// A sheet has at most so many arcs.
-const MOST_ARCS: u32 = 512;
 
 // What a line after the first is; an `ask` line completes the request.
 #[derive(Clone, Copy)]
@@ -118,8 +115,7 @@ fn check(sheet: &[u8]) -> Result<Form, Refusal>
     let e = line.len();
     let mut v = [0u32; 2];
     let first = text::word_line(line, b"tracks", TAB, &mut v);
-    // d must be 2 or 3
-    if sheet.len() <= e || first.is_err() || v[1] < 2 || 3 < v[1] {
+    if sheet.len() <= e || first.is_err() || weigh_criteria(v[1]).is_err() {
         return Err(Refusal::Form(1));
     }
     let tracks = Tracks {
@@ -152,7 +148,7 @@ pub fn read(sheet: &[u8], arcs: &mut [u32]) -> Result<Reading, Refusal>
     ensures request { IfOk result (λ s. s.request ≡ read_request sheet.now (length arcs.old)) }
     ensures arcs_after { arcs.new ≡ arcs_after sheet.now arcs.old }
 {
-    if 8192 < sheet.len() {
+    if MOST_BYTES < sheet.len() {
         return Err(Refusal::Bytes);
     }
     let form = check(sheet)?;

@@ -4,7 +4,8 @@ ghost use Rattle.words.specs.Pieces.{write};
 ghost use Rattle.text.specs.Number.{any_over};
 ghost use Rattle.sheet.specs.Writer.{writing_said, ask_numbers, numbers_of, lines_of, written, write_says, sheet_after, Ranged};
 
-use request::{Refusal, Request};
+use crate::MOST_BYTES;
+use request::{Refusal, Request, weigh_arc_words, weigh_criteria};
 use text::TAB;
 
 // What a sheet is to say, past rows 3 and 7: d is 2 or 3, and the words are those of at most 512 arcs.
@@ -82,19 +83,14 @@ pub fn write(request: Request, arcs: &[u32], sheet: &mut [u8]) -> Result<u32, Re
     ensures result_value { writing_said result ≡ write_says request arcs.now (length sheet.old) }
     ensures sheet_after { sheet.new ≡ sheet_after request arcs.now sheet.old }
 {
-    if request.criteria < 2 || 3 < request.criteria {
-        return Err(Refusal::Criteria);
-    }
-    let w = request.criteria as usize + 2;
-    if arcs.len() % w != 0 || 512 < arcs.len() / w {
-        return Err(Refusal::ArcWords);
-    }
+    weigh_criteria(request.criteria)?;
+    weigh_arc_words(arcs.len(), request.criteria as usize + 2)?;
     let content = Content { request, arcs };
     if content.over() {
         return Err(Refusal::Digits);
     }
     let n = content.byte_count();
-    if 8192 < n {
+    if MOST_BYTES < n {
         return Err(Refusal::Bytes);
     }
     if sheet.len() < n {

@@ -1,12 +1,8 @@
 -- `find`: rows 2 to 10 with 17, rows 13 to 16 one after another, and then the route. Assumes nothing.
-use mathlib.Core.Path.{◌≡◌, refl, sym, ap, ◌∙◌}
+use mathlib.Core.Path.{refl, sym, ap, ◌∙◌}
 use mathlib.Core.Logic.{inl, inr, ⊎_elim}
-use Prim.Native.Nat.{ℕ}
-use mathlib.Core.Bool.{not}
-use mathlib.Core.List.{List}
 use lib.ListN.{length}
 use lib.Seq.{length-take-le}
-use Rattle.words.proofs.Choices.{not-true, not-false}
 use Rattle.route.proofs.Holding.{reached-inside}
 use Rattle.std.proofs.lemmas.Result.{err_from_is_err_and}
 use Rattle.words.specs.Rows.{refused}
@@ -24,7 +20,7 @@ use Rattle.route.proofs.Following.{was-broken, was-whole}
 use Rattle.route.proofs.Answering.{refused-early, Placed, empty-cell, chain-broken, chain-whole, none, refused_all, empty-all, route-all}
 use Rattle.route.proofs.Reading.{broken-leaves, three-costs, cells_is, at-labels, at-route, at-beyond, placed}
 use Rattle.route.proofs.find.Goals as goal
-use Rattle.route.proofs.find.Goals.{Else-cells-spot, After-is_empty}
+use Rattle.route.proofs.find.Goals.{Else-cells-spot}
 
 -- ---- what is known at each point
 
@@ -34,10 +30,6 @@ is-there c =
     let a = c.args in
     let k = shaped-is (asked a.request a.arcs.now) _ c.in_ok-shape.ensures in
     placed a.request a.arcs.now k.0 _ k.1 a.labels.now (length a.route.now) a.spot.layer a.spot.node a.spot.cell c.if-labels-shape.false c.if-route-request.false c.if-request-spot.false c.if-request-spot-2.false c.if-cells-spot.false
-
--- once the label is looked up: whether the one that was asked for is empty
-told : (c : After-is_empty) → not (filled (asked c.args.request c.args.arcs.now) (label_in (asked c.args.request c.args.arcs.now) c.args.labels.now c.args.spot.layer c.args.spot.node c.args.spot.cell)) ≡ c.is_empty.result
-told c = sym (c.is_empty.ensures ∙ ap (λ (l : List ℕ). not (filled (asked c.args.request c.args.arcs.now) l)) c.label-l.ensures)
 
 -- ---- the answers
 
@@ -86,19 +78,20 @@ invariant_of-store c =
     let k = shaped-is R _ c.in_ok-shape.ensures in
     record { regular = accepted-regular R k.0; small = accepted-small R k.0; fits = accepted-fits R k.0; cells_is = cells_is a.request a.arcs.now k.0 _ k.1 }
 
-pub returns-then-is_empty : goal.returns-then-is_empty
-returns-then-is_empty c =
+pub returns-then-not-is_filled : goal.returns-then-not-is_filled
+returns-then-not-is_filled c =
     let a = c.args in
     let R : Req = asked a.request a.arcs.now in
-    let s = not-true _ (told (goal.at.returns-then-is_empty c).After-is_empty ∙ c.if-is_empty.true) in
-    let w = empty-cell R a.labels.now (length a.route.now) a.spot.layer a.spot.node a.spot.cell (is-there (goal.at.returns-then-is_empty c).Else-cells-spot) s in
+    let s = sym c.is_filled.ensures ∙ c.if-not-is_filled.true in
+    let w = empty-cell R a.labels.now (length a.route.now) a.spot.layer a.spot.node a.spot.cell (is-there (goal.at.returns-then-not-is_filled c).Else-cells-spot) s in
     let all = empty-all R a.labels.now a.route.now a.spot.layer a.spot.node a.spot.cell ending.Empty none refl w refl in
     record { ending_value = all.0; costs_value = all.1.0; route_after = all.1.1 }
 
 pub slice_bounds-costs-end : goal.slice_bounds-costs-end
 slice_bounds-costs-end c =
     let a = c.args in
-    sym (length-take-le a.request.criteria c.label-l.result.now (reached-inside (asked a.request a.arcs.now) c.label-l.result.now c.if-is_empty.ensures))
+    let R : Req = asked a.request a.arcs.now in
+    sym (length-take-le a.request.criteria c.label.result.now (reached-inside R c.label.result.now (ap (filled R) c.label.ensures ∙ sym c.is_filled.ensures ∙ c.if-not-is_filled.false)))
 
 pub follow-requires-clause-room : goal.follow-requires-clause-room
 unfolding reach
@@ -112,7 +105,7 @@ returns-in_err-count c =
     let r : Refusal = c.in_err-count.field-0.0 in
     let ch : Chain = chain R a.labels.now a.spot.layer a.spot.node a.spot.cell in
     let b = was-broken ch r c.in_err-count.ensures.value in
-    let s = not-false _ (told (goal.at.returns-in_err-count c).After-is_empty ∙ c.if-is_empty.false) in
+    let s = sym c.is_filled.ensures ∙ c.if-not-is_filled.false in
     let w = chain-broken R a.labels.now (length a.route.now) a.spot.layer a.spot.node a.spot.cell (is-there (goal.at.returns-in_err-count c).Else-cells-spot) s _ b.0 in
     let all = refused_all R a.labels.now a.route.now a.spot.layer a.spot.node a.spot.cell (ending.Refused r) none refl r (w ∙ ap (λ (x : Refusal). refused (number_of x) (place_of x)) b.1) refl in
     record { ending_value = rw (p.1, p.2) all.0; costs_value = rw p.1 all.1.0; route_after = broken-leaves a.route.now _ ch _ c.follow.ensures.route_after b.0 ∙ all.1.1 }
@@ -124,8 +117,8 @@ returns c =
     let R : Req = asked a.request a.arcs.now in
     let ch : Chain = chain R a.labels.now a.spot.layer a.spot.node a.spot.cell in
     let h = was-whole ch _ c.in_ok-count.ensures.value in
-    let s = not-false _ (told (goal.at.returns c).After-is_empty ∙ c.if-is_empty.false) in
+    let s = sym c.is_filled.ensures ∙ c.if-not-is_filled.false in
     let w = chain-whole R a.labels.now (length a.route.now) a.spot.layer a.spot.node a.spot.cell (is-there (goal.at.returns c).Else-cells-spot) s _ h.0 in
-    let x = three-costs R _ (label_in R a.labels.now a.spot.layer a.spot.node a.spot.cell) _ _ _ c.label-l.ensures c.word.ensures c.word-2.ensures c.word-3.ensures in
+    let x = three-costs R _ (label_in R a.labels.now a.spot.layer a.spot.node a.spot.cell) _ _ _ c.label.ensures c.word.ensures c.word-2.ensures c.word-3.ensures in
     let all = route-all R a.labels.now a.route.now a.spot.layer a.spot.node a.spot.cell w _ h.1 _ _ x c.follow.ensures.route_after in
     record { ending_value = all.0; costs_value = all.1.0; route_after = all.1.1 }

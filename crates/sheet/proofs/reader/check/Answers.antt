@@ -1,19 +1,18 @@
 -- `check`: the first line, and the lines after it. Assumes nothing.
-use Prim.Native.Nat.{◌+◌, ◌<◌}
+use Prim.Native.Nat.{◌+◌, ◌≤◌, ◌<◌}
 use mathlib.Core.Path.{◌≡◌, refl, ap, sym, ◌∙◌}
 use mathlib.Core.List.{[], ◌∷◌}
 use mathlib.Core.Bool.{false}
-use native.Mathlib.Omega.{arith}
-use lib.ListN.{length, drop}
+use lib.ListN.{length, get_or, drop}
 use Rattle.std.proofs.Common.{is_err}
 use Rattle.text.specs.Line.{Got, good, taken_of}
 use Rattle.text.proofs.Written.{line_of-was}
 use Rattle.sheet.specs.Grammar.{tab, tracks_word, tracks_line, after_first, sheet_of}
 use Rattle.sheet.specs.Inside.{form_of}
-use Rattle.sheet.proofs.LineKinds.{no-err, told-good, filled}
+use Rattle.sheet.proofs.LineKinds.{no-err, told-good, filled, criteria-out, criteria-in}
 use Rattle.sheet.proofs.First.{sheet-loose, sheet-line, first-err, first_in, first-other}
 use Rattle.sheet.proofs.reader.check.Goals as goal
-use Rattle.sheet.proofs.reader.check.Goals.{After-word_line-first, then-sheet-e-via-then-sheet-e, then-sheet-e-via-else-sheet-e+then-is_err, then-sheet-e-via-else-sheet-e+else-is_err+then-v-lt2, then-sheet-e-via-else-sheet-e+else-is_err+else-v-lt2+then-v-gt3}
+use Rattle.sheet.proofs.reader.check.Goals.{After-word_line-first, Else-is_err-2, then-sheet-e-via-then-sheet-e, then-sheet-e-via-else-sheet-e+then-is_err, then-sheet-e-via-else-sheet-e+else-is_err+then-is_err-2}
 
 -- the sheet by what was read of its first line
 module _ (c : After-word_line-first) where
@@ -43,16 +42,22 @@ returns-then-sheet-e c = let s = c.args.sheet.now in
       | then-sheet-e-via-else-sheet-e+then-is_err w ↦
           sheet-line s line c.cut-line.ensures w.if-sheet-e.false
           ∙ first-err (tracks_line line) rest (ap is_err (sym c.word_line-first.ensures.value) ∙ sym w.is_err.ensures.value ∙ w.if-is_err.true)
-      | then-sheet-e-via-else-sheet-e+else-is_err+then-v-lt2 w ↦
+      | then-sheet-e-via-else-sheet-e+else-is_err+then-is_err-2 w ↦
+          let d = criteria-out _ _ w.weigh_criteria.ensures (sym w.is_err-else-is_err.ensures.value ∙ w.if-is_err-2.true) in
           first_good h w.if-sheet-e.false (sym w.is_err.ensures.value ∙ w.if-is_err.false)
-          ∙ first-other c.word_line-first.new.out rest (λ e. omega (arith, w.if-v-lt2.true)) (λ e. omega (arith, w.if-v-lt2.true))
-      | then-sheet-e-via-else-sheet-e+else-is_err+else-v-lt2+then-v-gt3 w ↦
-          first_good h w.if-sheet-e.false (sym w.is_err.ensures.value ∙ w.if-is_err.false)
-          ∙ first-other c.word_line-first.new.out rest (λ e. omega (arith, w.if-v-gt3.true)) (λ e. omega (arith, w.if-v-gt3.true))
+          ∙ first-other c.word_line-first.new.out rest d.0 d.1
     ]))
+
+-- d is 2 or 3
+in-range : (c : Else-is_err-2) → (2 ≤ get_or c.word_line-first.new.out 1 0) × (get_or c.word_line-first.new.out 1 0 ≤ 3)
+in-range c = criteria-in _ _ c.weigh_criteria.ensures (sym c.is_err-else-is_err.ensures.value ∙ c.if-is_err-2.false)
+
+pub invariant_of-tracks : goal.invariant_of-tracks
+invariant_of-tracks c = record { two_or_three = in-range (goal.at.invariant_of-tracks c).Else-is_err-2 }
 
 pub returns : goal.returns
 returns c = let e : is_err c.word_line-first.result ≡ false = sym c.is_err.ensures.value ∙ c.if-is_err.false in
     let h = (goal.at.returns c).After-word_line-first in
+    let d = in-range (goal.at.returns c).Else-is_err-2 in
     c.check_lines.ensures
-    ∙ sym (ap form_of (first_good h c.if-sheet-e.false e ∙ first_in c.word_line-first.new.out (drop (length c.cut-line.result.now + 1) c.args.sheet.now) (two-long h e) c.if-v-lt2.false c.if-v-gt3.false))
+    ∙ sym (ap form_of (first_good h c.if-sheet-e.false e ∙ first_in c.word_line-first.new.out (drop (length c.cut-line.result.now + 1) c.args.sheet.now) (two-long h e) d.0 d.1))

@@ -32,8 +32,8 @@ module _ (c : In_ok-form) where
       let w : c.in_ok-form.form.request.criteria + 2 ≤ 5 = omega (arith, can_be.at_most) in
       mul-le-mul can_be.arcs w
 
-pub returns-then-sheet-gt8192 : goal.returns-then-sheet-gt8192
-returns-then-sheet-gt8192 c = let r = reads-long c.args.sheet.now c.args.arcs.now c.if-sheet-gt8192.true in
+pub returns-then-sheet-gt-MOST_BYTES : goal.returns-then-sheet-gt-MOST_BYTES
+returns-then-sheet-gt-MOST_BYTES c = let r = reads-long c.args.sheet.now c.args.arcs.now c.if-sheet-gt-MOST_BYTES.true in
     record { value = r.value; request = r.request; arcs_after = r.arcs }
 
 pub returns-in_err-form : goal.returns-in_err-form

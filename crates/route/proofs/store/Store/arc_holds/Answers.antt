@@ -1,15 +1,21 @@
 -- `arc_holds`: the tests before the costs, joined as they stand, and the costs. Assumes nothing.
 use Prim.Native.Nat.{ℕ, ◌<◌}
-use mathlib.Core.Path.{◌≡◌, ap, ◌∙◌}
+use mathlib.Core.Path.{◌≡◌, sym, ap, ◌∙◌}
 use mathlib.Core.List.{List}
 use native.Mathlib.Omega.{arith}
 use lib.ListN.{length, take, drop}
 use Rattle.request.specs.Request.{Req, asked, arc_count, arc, head, arc_costs}
 use Rattle.request.proofs.Tops.{arc-words}
-use Rattle.rounds.specs.Label.{costs, step, from, sum}
+use Rattle.rounds.specs.Label.{costs, step, from, filled, sum}
 use Rattle.route.specs.Chain.{same, agrees, arc_holds}
 use Rattle.route.proofs.Holding.{costs-inside, reached-inside}
+use Rattle.route.proofs.Steps.{told-filled}
 use Rattle.route.proofs.store.Store.arc_holds.Goals as goal
+use Rattle.route.proofs.store.Store.arc_holds.Goals.{After-is_filled}
+
+-- the label reached is filled as its step word says
+told : (c : After-is_filled) → c.is_filled.result ≡ filled (asked c.args.self.now.request c.args.self.now.arcs.now) c.args.reached.now
+told c = let a = c.args in told-filled (asked a.self.now.request a.self.now.arcs.now) a.reached.now _ _ c.step.ensures c.is_filled.ensures
 
 pub costs_add_up-requires : goal.costs_add_up-requires
 unfolding arc arc_count
@@ -21,11 +27,13 @@ costs_add_up-requires c =
     let n = c.if-spot-gt0.branch in
     let m = c.if-head-spot.branch in
     let in_arc : a.arc < arc_count R = grind arith in
-    (costs-inside R a.l.now (omega arith), reached-inside R a.reached.now c.if-is_empty.ensures, ap length c.piece-words.ensures ∙ arc-words R a.self.now.regular a.arc in_arc)
+    let t = told (goal.at.costs_add_up-requires c).After-is_filled in
+    (costs-inside R a.l.now (omega arith), reached-inside R a.reached.now (sym t ∙ c.if-not-is_filled.false), ap length c.piece-words.ensures ∙ arc-words R a.self.now.regular a.arc in_arc)
 
-pub returns-then-is_empty : goal.returns-then-is_empty
+pub returns-then-not-is_filled : goal.returns-then-not-is_filled
 unfolding arc_holds agrees step from arc_count head arc
-returns-then-is_empty c =
+returns-then-not-is_filled c =
+    let t = sym (told (goal.at.returns-then-not-is_filled c).After-is_filled) ∙ c.if-not-is_filled.true in
     let r = c.requires in
     let h = c.if-spot-gt0.branch in
     let k = c.if-arc-self.branch in
@@ -33,9 +41,10 @@ returns-then-is_empty c =
     let n = c.args.self.now.cells_is in
     grind arith
 
-pub returns-else-is_empty : goal.returns-else-is_empty
+pub returns-else-not-is_filled : goal.returns-else-not-is_filled
 unfolding arc_holds agrees step from arc_count head arc costs arc_costs
-returns-else-is_empty c =
+returns-else-not-is_filled c =
+    let t = sym (told (goal.at.returns-else-not-is_filled c).After-is_filled) ∙ c.if-not-is_filled.false in
     let a = c.args in
     let d = a.self.now.request.criteria in
     let R : Req = asked a.self.now.request a.self.now.arcs.now in
