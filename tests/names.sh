@@ -46,10 +46,11 @@ for page in "$@"; do
     done <"${TMPDIR:-/tmp}/names.$$"
     rm -f "${TMPDIR:-/tmp}/names.$$"
 done
-# The theorem of each public function of a file: f-settled for a function f, t-m-settled for a method m of a type T, its words parted by dashes.
+# The theorem of each public function of a file: f-settled for a function f, t-m-settled for a method m of a type T, of a trait's impl too, its words parted by dashes.
 theorems() {
     awk '
         /^(unsafe )?impl[ <]/ {
+            trait = / for /
             sub(/^(unsafe )?impl */, ""); gsub(/->/, "")
             if (/^</) {
                 depth = 0
@@ -65,9 +66,9 @@ theorems() {
             while (match(type, /[a-z0-9][A-Z]/)) type = substr(type, 1, RSTART) "-" substr(type, RSTART + 1)
             type = tolower(type) "-"
         }
-        /^}/ { type = "" }
-        /^ *pub ((const|unsafe) )*(extern "C" )?fn / {
-            sub(/^ *pub ((const|unsafe) )*(extern "C" )?fn /, ""); sub(/[^a-z0-9_].*$/, ""); gsub(/_/, "-")
+        /^}/ { type = ""; trait = 0 }
+        /^ *pub ((const|unsafe) )*(extern "C" )?fn / || (trait && /^ +((const|unsafe) )*fn /) {
+            sub(/^ *(pub )?((const|unsafe) )*(extern "C" )?fn /, ""); sub(/[^a-z0-9_].*$/, ""); gsub(/_/, "-")
             print type $0 "-settled"
         }' "$@"
 }

@@ -7,6 +7,7 @@ ghost use Rattle.labels.specs.Words.{wins_over, Adds, Seeks, FoundAt, SameFrom};
 
 use fences::seek;
 use rounds::Step;
+use words::copy;
 
 // The candidate that a label's costs, an arc's costs and two words make.
 pub fn add_costs(out: &mut [u32], lab: &[u32], arc: &[u32], d: usize, step: u32, from: u32)
@@ -34,7 +35,7 @@ pub fn place(cell: &mut [u32], cand: &[u32], d: usize)
     ensures { cell.new ≡ cond (wins_over d cand.now cell.old) cand.now cell.old }
 {
     if wins(cand, cell, d) {
-        cell.copy_from_slice(cand);
+        copy(cell, cand);
     }
 }
 

@@ -73,7 +73,7 @@ module _ (xs : List ℕ) (v d : ℕ) (ys : List ℕ) where
       arcs-long = ap length arcs-put ∙ length-write with-costs (d + 2) ws ∙ costs-long
 
       -- the count between makes the numbers whole
-      numbers-law : (cs : List ℕ) (n : ℕ) → ys ≡ cs → n ≡ length ws → set with-arcs (d + 1) n ≡ write xs 0 (v ∷ cs ++ length ws ∷ ws)
+      pub numbers-law : (cs : List ℕ) (n : ℕ) → ys ≡ cs → n ≡ length ws → set with-arcs (d + 1) n ≡ write xs 0 (v ∷ cs ++ length ws ∷ ws)
       numbers-law cs n e f =
           numbers-put xs (set xs 0 v) with-costs with-arcs (set with-arcs (d + 1) n) ys ws v d n size refl costs-put arcs-put refl
           ∙ ap (λ (l : List ℕ). write xs 0 (v ∷ l ++ n ∷ ws)) e

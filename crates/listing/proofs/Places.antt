@@ -41,6 +41,17 @@ table_is t =
       words = t.words;
     }
 
+-- the numbers that make a place up are small: K × N; the nodes before, times C; the labels before, times d + 2
+pub places-small : (q : Request) (C v c : ℕ) → (q.nodes ≤ 64) × (q.hops ≤ 63) × (q.criteria ≤ 3) × (C ≤ 1048576) × (v < q.nodes) × (c < C)
+    → (q.hops * q.nodes ≤ 4032) × ((q.hops * q.nodes + v) * C ≤ 4293918720) × (((q.hops * q.nodes + v) * C + c) * (q.criteria + 2) ≤ 21474836480)
+places-small q C v c p =
+    let rows = mul-le-mul p.1 p.0 in
+    let few : q.hops * q.nodes + v ≤ 4095 = omega (arith, p) in
+    let blocks = mul-le-mul few p.3 in
+    let near : (q.hops * q.nodes + v) * C + c ≤ 4294967296 = omega (arith, p) in
+    let wide : q.criteria + 2 ≤ 5 = omega (arith, p) in
+    (omega arith, omega arith, omega (arith, mul-le-mul near wide))
+
 -- a label of the last layer is one of (K+1) × N × C
 place_in : (n k C v c : ℕ) → v < n → c < C → (k * n + v) * C + c < (k + 1) * (n * C)
 place_in n k C v c hv hc =
@@ -66,7 +77,7 @@ module _ (q : Request) (arcs W : List ℕ) (C : ℕ) (ok : Tabled (asked q arcs)
 
   module _ (v c : ℕ) (hv : v < q.nodes) (hc : c < C) where
     -- the label ends inside the words
-    place_end : ((q.hops * q.nodes + v) * C + c) * (q.criteria + 2) + (q.criteria + 2) ≤ length W
+    pub place_end : ((q.hops * q.nodes + v) * C + c) * (q.criteria + 2) + (q.criteria + 2) ≤ length W
     unfolding label_count
     place_end =
         let e : (q.hops + 1) * (q.nodes * C) ≡ (q.hops + 1) * (q.nodes * cells (asked q arcs)) = ap (λ (x : ℕ). (q.hops + 1) * (q.nodes * x)) ok.cells_is in

@@ -8,6 +8,7 @@ ghost use Rattle.listing.specs.Print.{asked_in, measured, printed_of, bytes_afte
 
 use route::{Spot, Store};
 use text::TAB;
+use words::copy;
 
 // The table of an accepted request: a store of as many words as it has.
 #[derive(Clone, Copy)]
@@ -44,8 +45,10 @@ impl<'a> LabelTable<'a> {
         let d = self.store.request.criteria as usize;
         let spot = self.spot(node, cell);
         words[0] = node;
-        words[1..d + 1].copy_from_slice(&self.store.label(spot)[..d]);
-        let arcs = self.store.follow(spot, &mut words[d + 2..]).unwrap_or(0);
+        copy(&mut words[1..d + 1], &self.store.label(spot)[..d]);
+        // Of a copy: with the table's own store handed out here, its sizes are loaded and multiplied again for each cell of the loops below.
+        let store = self.store;
+        let arcs = store.follow(spot, &mut words[d + 2..]).unwrap_or(0);
         words[d + 1] = arcs;
         &words[..d + 2 + arcs as usize]
     }

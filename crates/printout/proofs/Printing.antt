@@ -1,6 +1,6 @@
 -- A text that is short enough is printed whole. Assumes nothing.
 use Prim.Native.Nat.{ℕ, ◌*◌, ◌≤◌, ◌<◌}
-use mathlib.Core.Path.{◌≡◌, refl, sym, ap, ap₂, ◌∙◌}
+use mathlib.Core.Path.{◌≡◌, refl, sym, ap, ◌∙◌}
 use mathlib.Core.List.{List, [], ◌∷◌, ◌++◌, append_assoc}
 use native.Mathlib.Omega.{arith}
 use lib.ListN.{length}
@@ -16,10 +16,10 @@ use Rattle.request.specs.Accepted.{Accepted}
 use Rattle.request.specs.Refusal.{number_of, place_of, refusal_of, Named, answer}
 use Rattle.request.specs.declared.Refusal.{Refusal}
 use Rattle.request.specs.declared.Refusal.TheVariants.{Room}
-use Rattle.request.proofs.Named.{NamedRows, named-none, named-row, named-++, named-of, named-rows}
+use Rattle.request.proofs.Named.{NamedRows, named-says, named-none, named-row, named-++, named-of, named-rows}
 use Rattle.sheet.proofs.Named.{form-named}
 use Rattle.sheet.specs.Grammar.{sheet_of}
-use Rattle.sheet.specs.Reader.{words_of, request_of, bad_line, form_rows}
+use Rattle.sheet.specs.Reader.{words_of, request_of, form_rows}
 use Rattle.listing.specs.List.{asks, listing_of, request_rows, list_rows, listed_of, listing_after}
 use Rattle.listing.proofs.Suffices.{listing-few, bytes-suffice}
 use Rattle.printout.specs.Printout.{printout_rows, printed, printout_of}
@@ -86,14 +86,16 @@ by-listing : (w : Weighed) (text bytes : List ℕ) (n : ℕ) → ◌≡◌ {A = 
 by-listing clear text bytes n e = (cc, refl, refl)
 by-listing (refused m p) text bytes n e = let z : ◌≡◌ {A = ℕ} 0 1 = cc in absurd (omega arith)
 
-by-refusal : (w : Weighed) (text bytes : List ℕ) (r : Refusal) (k : ℕ) → ((n p : ℕ) → w ≡ refused n p → Named n p) → ◌≡◌ {A = Result ℕ Refusal} (Err r) (answer w k)
-    → (refusal_line (number_of r) (place_of r) ≡ printed w text) × (settle w (write bytes 0 text) bytes ≡ bytes)
-unfolding Named
-by-refusal clear text bytes r k h e = let z : ◌≡◌ {A = ℕ} 0 1 = cc in absurd (omega arith)
-by-refusal (refused m p) text bytes r k h e =
+-- an answer that is a refusal says the number and the place that the table says, where those are a refusal's
+err-says : (w : Weighed) (k : ℕ) (r : Refusal) → ((n p : ℕ) → w ≡ refused n p → Named n p) → ◌≡◌ {A = Result ℕ Refusal} (Err r) (answer w k) → refused (number_of r) (place_of r) ≡ w
+err-says clear k r h e = let z : ◌≡◌ {A = ℕ} 0 1 = cc in absurd (omega arith)
+err-says (refused m p) k r h e =
     let f : r ≡ refusal_of m p = cc in
-    let g = h m p refl in
-    (ap₂ refusal_line (ap number_of f ∙ g.0) (ap place_of f ∙ g.1), refl)
+    ap (λ (x : Refusal). refused (number_of x) (place_of x)) f ∙ named-says m p (h m p refl)
+
+-- of whatever table: where it refuses with this number and place, the bytes are left, and their line is what is printed
+by-refusal : (w : Weighed) (text bytes : List ℕ) (n p : ℕ) → refused n p ≡ w → (refusal_line n p ≡ printed w text) × (settle w (write bytes 0 text) bytes ≡ bytes)
+by-refusal w text bytes n p e = (ap (λ (w : Weighed). printed w text) e, sym (ap (λ (w : Weighed). settle w (write bytes 0 text) bytes) e))
 
 module _ (s bytes : List ℕ) (enough : 53000 ≤ length bytes) where
   -- a listing is what is printed
@@ -111,5 +113,6 @@ module _ (s bytes : List ℕ) (enough : 53000 ≤ length bytes) where
   unfolding listed_of listing_after printout_of NamedRows
   prints-refusal r e =
       let same = same-weight s (length bytes) enough in
-      let p = by-refusal (weigh (printout_rows s)) (listing_of (asks s)) bytes r (length (listing_of (asks s))) (refusals-named s) (e ∙ ap (λ (w : Weighed). answer w (length (listing_of (asks s)))) same) in
+      let named = err-says (weigh (printout_rows s)) (length (listing_of (asks s))) r (refusals-named s) (e ∙ ap (λ (w : Weighed). answer w (length (listing_of (asks s)))) same) in
+      let p = by-refusal (weigh (printout_rows s)) (listing_of (asks s)) bytes (number_of r) (place_of r) named in
       (p.0, ap (λ (w : Weighed). settle w (write bytes 0 (listing_of (asks s))) bytes) same ∙ p.1)

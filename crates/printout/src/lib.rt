@@ -15,6 +15,6 @@ pub fn print_out(sheet: &[u8], text: &mut [u8]) -> usize
 {
     match list(sheet, text) {
         Ok(n) => n as usize,
-        Err(refusal) => print_refusal(refusal, text).unwrap() as usize,
+        Err(refusal) => print_refusal(refusal.number(), refusal.place(), text).unwrap() as usize,
     }
 }

@@ -12,6 +12,7 @@ use Rattle.request.proofs.Refusal.place as place_named
 use Rattle.request.proofs.fill_ladders
 use Rattle.request.proofs.weigh_criteria
 use Rattle.request.proofs.weigh_arc_words
+use Rattle.rounds.proofs.StepFromU32.from as step_from
 use Rattle.rounds.proofs.Step.is_filled
 use Rattle.rounds.proofs.Step.word as step_word
 use Rattle.labels.proofs.add_costs
@@ -50,6 +51,9 @@ pub weigh-arc-words-settled : Settled weigh_arc_words.Kinds.ps weigh_arc_words.K
 weigh-arc-words-settled κs a x y v w ok p q = (weighed-once x y (agree p q), refl)
 
 -- of a label's step
+pub step-from-settled : Settled step_from.Kinds.ps step_from.Kinds.r step_from.Reads.Asked step_from.Reads.Learnt
+step-from-settled κs a x y v w ok p q = (agree p q, refl)
+
 pub step-word-settled : Settled step_word.Kinds.ps step_word.Kinds.r step_word.Reads.Asked step_word.Reads.Learnt
 step-word-settled κs a x y v w ok p q = (agree p q, refl)
 

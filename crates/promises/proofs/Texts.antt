@@ -21,4 +21,4 @@ pub put-line-settled : Settled put_line.Kinds.ps put_line.Kinds.r put_line.Reads
 put-line-settled κs a x y v w ok p q = (agree p.0 q.0, lent (agree p.1 q.1) refl)
 
 pub print-refusal-settled : Settled print_refusal.Kinds.ps print_refusal.Kinds.r print_refusal.Reads.Asked print_refusal.Reads.Learnt
-print-refusal-settled κs a x y v w ok p q = (agree p.0 q.0, passed (lent (agree p.1.0 q.1.0) refl))
+print-refusal-settled κs a x y v w ok p q = (agree p.0 q.0, passed (passed (lent (agree p.1.0 q.1.0) refl)))

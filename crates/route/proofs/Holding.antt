@@ -33,7 +33,7 @@ all6 a b c d e f t =
     (r.0, r.1, r.2, r.3, q.1, p.1)
 
 -- a word that is not 0 lies within the list
-word-inside : (l : List ℕ) (n : ℕ) → (get_or l n 0 ≡ 0 → ⊥) → n < length l
+pub word-inside : (l : List ℕ) (n : ℕ) → (get_or l n 0 ≡ 0 → ⊥) → n < length l
 word-inside l n h = lt_of_not-le (λ (g : length l ≤ n). h (get_or-eq_default l 0 g))
 
 -- where a label has a step its costs are whole
@@ -84,7 +84,7 @@ module _ (R : Req) (i : ℕ) (l : List ℕ) (v c : ℕ) where
       }
 
   -- the costs decide where all else is right
-  start-rest : step R l ≡ 1 → i ≡ 0 → v ≡ R.source → c ≡ 0 → from R l ≡ 0 → same (costs R l) (replicate R.criteria 0) ≡ start_holds R i l v c
+  pub start-rest : step R l ≡ 1 → i ≡ 0 → v ≡ R.source → c ≡ 0 → from R l ≡ 0 → same (costs R l) (replicate R.criteria 0) ≡ start_holds R i l v c
   unfolding start_holds
   start-rest s e n k f = rw (eq-eqb (step R l) 1 s, eq-eqb i 0 e, eq-eqb v R.source n, eq-eqb c 0 k, eq-eqb (from R l) 0 f)
 
@@ -114,7 +114,7 @@ module _ (R : Req) (i : ℕ) (l reached : List ℕ) where
       }
 
   -- the label reached decides where all else is right
-  kept-rest : step R l ≡ 2 → 0 < i → from R l ≡ 0 → agrees R (costs R l) reached (costs R reached) ≡ kept_holds R i l reached
+  pub kept-rest : step R l ≡ 2 → 0 < i → from R l ≡ 0 → agrees R (costs R l) reached (costs R reached) ≡ kept_holds R i l reached
   unfolding kept_holds
   kept-rest s b f = rw (eq-eqb (step R l) 2 s, lt-ltb 0 i b, eq-eqb (from R l) 0 f)
 
@@ -146,7 +146,7 @@ module _ (R : Req) (i : ℕ) (l : List ℕ) (v a : ℕ) (reached : List ℕ) whe
       }
 
   -- the label reached decides where all else is right
-  arc-rest : 3 ≤ step R l → 0 < i → a < arc_count R → head R a ≡ v → from R l < cells R
+  pub arc-rest : 3 ≤ step R l → 0 < i → a < arc_count R → head R a ≡ v → from R l < cells R
       → agrees R (costs R l) reached (sum (costs R reached) (arc_costs R a)) ≡ arc_holds R i l v a reached
   unfolding arc_holds
   arc-rest s b m h f = rw (le-leb 3 (step R l) s, lt-ltb 0 i b, lt-ltb a (arc_count R) m, eq-eqb (head R a) v h, lt-ltb (from R l) (cells R) f)

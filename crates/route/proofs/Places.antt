@@ -5,14 +5,16 @@ use mathlib.Core.List.{List}
 use mathlib.Core.Logic.{⊎_elim}
 use native.Mathlib.Nat.{mul-le-mul}
 use native.Mathlib.Omega.{arith}
-use lib.ListN.{length, take, drop, length-drop, drop_of_length-le}
+use lib.ListN.{length, get_or, take, drop, length-drop, drop_of_length-le}
 use lib.Seq.{take-nil, take_all}
 use Rattle.words.specs.Pieces.{at}
 use Rattle.words.proofs.Choices.{lt-or-le}
+use Rattle.words.proofs.Pieces.{piece-word}
 use Rattle.request.specs.Request.{Req, width}
 use Rattle.request.specs.Shape.{cells}
 use Rattle.request.specs.Accepted.{Regular, Small, Fits}
 use Rattle.request.proofs.Answers.{cells-few}
+use Rattle.rounds.specs.Label.{step}
 use Rattle.rounds.specs.Rounds.{label_in}
 
 -- ---- nothing wraps
@@ -85,3 +87,10 @@ module _ (xs : List ℕ) (k w : ℕ) where
 pub label_is : (R : Req) (W X : List ℕ) (n i v c : ℕ) → n ≡ cells R → X ≡ at (width R) W ((i * R.nodes + v) * n + c) → X ≡ label_in R W i v c
 unfolding label_in
 label_is R W X n i v c e h = h ∙ ap (λ (k : ℕ). at (width R) W ((i * R.nodes + v) * k + c)) e
+
+-- its step is the word so many places behind its first
+pub step-at : (R : Req) (W : List ℕ) (n i v c s : ℕ) → n ≡ cells R → s ≡ get_or W (((i * R.nodes + v) * n + c) * width R + R.criteria) 0 → s ≡ step R (label_in R W i v c)
+unfolding label_in step
+step-at R W n i v c s e h =
+    h ∙ sym (piece-word (width R) W ((i * R.nodes + v) * n + c) R.criteria (omega arith))
+    ∙ ap (λ (k : ℕ). get_or (at (width R) W ((i * R.nodes + v) * k + c)) R.criteria 0) e

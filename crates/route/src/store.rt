@@ -1,5 +1,5 @@
 // Labels that are not trusted: where the label of a spot leads, and the chain back to the start.
-ghost use Rattle.std.specs.Prelude.{◌≡◌, ◌≤◌, length};
+ghost use Rattle.std.specs.Prelude.{◌≡◌, ◌+◌, ◌*◌, ◌≤◌, length};
 ghost use Rattle.words.specs.Pieces.{write};
 ghost use Rattle.request.specs.Request.{asked, reach};
 ghost use Rattle.request.specs.Shape as shape;
@@ -46,15 +46,23 @@ pub(crate) enum Link {
 }
 
 impl<'a> Store<'a> {
+    // Which of all labels a spot's is.
+    fn number(&self, spot: Spot) -> usize
+        requires { spot.layer ≤ self.now.request.hops }
+        ensures value { result ≡ (spot.layer * self.now.request.nodes + spot.node) * self.now.cells + spot.cell }
+        ensures small { result ≤ 9007199254740992 }
+    {
+        let node = spot.layer as usize * self.request.nodes as usize + spot.node as usize;
+        node * self.cells as usize + spot.cell as usize
+    }
+
     // The words of the label of a spot, as many of them as there are.
     pub fn label(&self, spot: Spot) -> &'a [u32]
         requires { spot.layer ≤ self.now.request.hops }
         ensures { result.now ≡ label_in (asked self.now.request self.now.arcs.now) self.now.labels.now spot.layer spot.node spot.cell }
     {
-        let q = self.request;
-        let node = spot.layer as usize * q.nodes as usize + spot.node as usize;
-        let at = node * self.cells as usize + spot.cell as usize;
-        piece(self.labels, at, q.criteria as usize + 2)
+        let width = self.request.criteria as usize + 2;
+        piece(self.labels, self.number(spot), width)
     }
 
     // Whether the label of a spot is filled.
@@ -62,7 +70,10 @@ impl<'a> Store<'a> {
         requires { spot.layer ≤ self.now.request.hops }
         ensures { result ≡ filled (asked self.now.request self.now.arcs.now) (label_in (asked self.now.request self.now.arcs.now) self.now.labels.now spot.layer spot.node spot.cell) }
     {
-        self.step(self.label(spot)).is_filled()
+        // By its step word alone: a listing asks this of every cell of the last layer, and most are empty.
+        let d = self.request.criteria as usize;
+        let step = word(self.labels, self.number(spot) * (d + 2) + d);
+        Step::from(step).is_filled()
     }
 
     // Where the label of a spot leads, or the layer in which the chain breaks.

@@ -19,7 +19,9 @@ use Rattle.request.proofs.Tests.{not-outside}
 use Rattle.request.proofs.Branches.{row-passed, row-held}
 use lib.Dec.{T}
 use Rattle.text.specs.declared.Fault.{Fault}
+use Rattle.text.specs.Fault.{fault}
 use Rattle.text.specs.Line.{Got, good, bad, line_of, answer_of, taken_of}
+use Rattle.text.proofs.Results.{fault-same}
 use Rattle.text.proofs.Written.{line_of-was}
 use Rattle.sheet.specs.declared.reader.LineKind.TheVariants.{Arc, Ask}
 use Rattle.std.specs.Result.{result_ok}
@@ -34,6 +36,11 @@ use Rattle.sheet.specs.Reader.{request_from}
 good-was : (g : Got) → Ok tt ≡ answer_of g → g ≡ good (taken_of g)
 good-was (good vs) e = refl
 good-was (bad j us) e = let z : ◌≡◌ {A = ℕ} 0 1 = cc in absurd (omega arith)
+
+-- a line that was found bad at byte j
+bad-was : (g : Got) (j : ℕ) → fault j ≡ answer_of g → g ≡ bad j (taken_of g)
+bad-was (good vs) j e = let z : ◌≡◌ {A = ℕ} 0 1 = cc in absurd (omega arith)
+bad-was (bad i us) j e = let q : j ≡ i = fault-same e in ap (λ (k : ℕ). bad k us) (sym q)
 
 -- an answer that is no fault
 pub no-fault : (r : Result Unit Fault) (x : Unit) → result_ok r ≡ Some x → r ≡ Ok tt
@@ -67,6 +74,10 @@ module _ (word : List ℕ) (n k : ℕ) (line : List ℕ) (r : Result Unit Fault)
   -- it is good
   pub told-good : r ≡ Ok tt → line_of tab word n line ≡ good (taken_of (line_of tab word n line))
   told-good g = good-was (line_of tab word n line) (sym g ∙ h ∙ ap (λ (x : ℕ). answer_of (line_of tab word x line)) e)
+
+  -- it is bad at byte j
+  pub told-bad : (j : ℕ) → r ≡ fault j → line_of tab word n line ≡ bad j (taken_of (line_of tab word n line))
+  told-bad j g = bad-was (line_of tab word n line) j (sym g ∙ h ∙ ap (λ (x : ℕ). answer_of (line_of tab word x line)) e)
 
 -- a good line's numbers fill the part that was lent for them
 pub filled : (word : List ℕ) (n : ℕ) (line vs out₀ out : List ℕ) → length out₀ ≡ n → line_of tab word n line ≡ good vs

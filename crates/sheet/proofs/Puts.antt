@@ -1,5 +1,5 @@
 -- The steps of writing a sheet: the numbers that are too large, one arc more, and the three parts of a sheet. Assumes nothing.
-use Prim.Native.Nat.{ℕ, zero, suc, ◌+◌, ◌*◌, ◌/◌, ◌%◌, ◌≤◌, ◌<◌}
+use Prim.Native.Nat.{ℕ, zero, suc, ◌+◌, ◌-◌, ◌*◌, ◌/◌, ◌%◌, ◌≤◌, ◌<◌}
 use mathlib.Core.Path.{◌≡◌, refl, ap, sym, ◌∙◌}
 use mathlib.Core.List.{List, [], ◌∷◌, ◌++◌, append_assoc}
 use mathlib.Core.Bool.{Bool, true, false, ◌||◌}
@@ -7,7 +7,7 @@ use native.Mathlib.Omega.{arith}
 use native.Mathlib.Nat.{zero-mul, suc-mul, div-add-mod'}
 use lib.ListN.{length, take, drop, length-append}
 use lib.Seq.{take-append_seam, drop-append_seam}
-use Rattle.words.specs.Pieces.{write}
+use Rattle.words.specs.Pieces.{part, write}
 use Rattle.words.proofs.Writes.{write-none, write-append}
 use Rattle.request.specs.declared.Request.{Request}
 use Rattle.text.specs.Number.{any_over}
@@ -16,6 +16,7 @@ use Rattle.text.proofs.Numbers.{over-append}
 use Rattle.sheet.specs.Grammar.{tab, tracks_word, arc_word, ask_word}
 use Rattle.sheet.specs.Rendering.{arc_lines, sheet_text}
 use Rattle.sheet.specs.Writer.{ask_numbers, asks_of, numbers_of, written}
+use Rattle.sheet.proofs.Lengths.{arcs-next}
 
 -- ---- numbers that are too large
 
@@ -42,6 +43,29 @@ module _ (r : Request) (v : List ℕ) (e : v ≡ ask_numbers r) where
   pub asks-are : take (r.criteria * 2) v ≡ asks_of r
   unfolding asks_of
   asks-are = ap (take (r.criteria * 2)) e
+
+-- ---- one arc more behind those that are written
+
+-- an arc's words, as a part from word p up to word p + w
+pub arc-words : (words : List ℕ) (p w : ℕ) → take (p + w - p) (drop p words) ≡ part words p w
+arc-words words p w = let e : p + w - p ≡ w = omega arith in rw e
+
+module _ (w i p at a : ℕ) (words : List ℕ) (e : p ≡ i * w) where
+  -- where the next arc ends
+  pub arc-ends : length (arc_lines w (i + 1) words) ≡ length (arc_lines w i words) + length (line_text tab arc_word (take (p + w - p) (drop p words)))
+  arc-ends =
+      ap length (arcs-next w i p words e) ∙ length-append (arc_lines w i words) (line_text tab arc_word (part words p w))
+      ∙ ap (λ (vs : List ℕ). length (arc_lines w i words) + length (line_text tab arc_word vs)) (sym (arc-words words p w))
+
+  -- the next arc is written right after those before
+  pub arc-put : (sheet₀ sheet sheet' : List ℕ) → a ≡ at + length (arc_lines w i words) → sheet ≡ write sheet₀ at (arc_lines w i words)
+      → sheet' ≡ write sheet a (line_text tab arc_word (take (p + w - p) (drop p words))) → sheet' ≡ write sheet₀ at (arc_lines w (i + 1) words)
+  arc-put sheet₀ sheet sheet' f g h =
+      h ∙ ap (λ (vs : List ℕ). write sheet a (line_text tab arc_word vs)) (arc-words words p w)
+      ∙ ap (λ (x : List ℕ). write x a (line_text tab arc_word (part words p w))) g
+      ∙ ap (λ (k : ℕ). write (write sheet₀ at (arc_lines w i words)) k (line_text tab arc_word (part words p w))) f
+      ∙ write-append sheet₀ at (arc_lines w i words) (line_text tab arc_word (part words p w))
+      ∙ ap (write sheet₀ at) (sym (arcs-next w i p words e))
 
 -- ---- arcs of w words, written one after another
 

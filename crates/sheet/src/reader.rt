@@ -113,9 +113,13 @@ fn check(sheet: &[u8]) -> Result<Form, Refusal>
 {
     let line = text::cut(sheet, LF);
     let e = line.len();
+    // First, so that a sheet without its LF is gone through once.
+    if sheet.len() <= e {
+        return Err(Refusal::Form(1));
+    }
     let mut v = [0u32; 2];
     let first = text::word_line(line, b"tracks", TAB, &mut v);
-    if sheet.len() <= e || first.is_err() || weigh_criteria(v[1]).is_err() {
+    if first.is_err() || weigh_criteria(v[1]).is_err() {
         return Err(Refusal::Form(1));
     }
     let tracks = Tracks {

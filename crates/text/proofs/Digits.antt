@@ -10,7 +10,7 @@ use lib.ListN.{length, get_or, length-append, get_or-append}
 use lib.Dec.{leb, eqb}
 use borrow.Author.Tests.{lt-ltb, le-ltb, le-leb, leb-true, eqb-true, eqb-false}
 use Rattle.words.proofs.Choices.{lt-or-le}
-use Rattle.std.specs.Prelude.{Result, Ok, Option, Some, None, IfNone, IfSome, MatchOption}
+use Rattle.std.specs.Prelude.{Result, Ok}
 use Rattle.text.specs.declared.Fault.{Fault}
 use Rattle.text.specs.Fault.{fault}
 use Rattle.text.specs.Number.{is_digit, digits_after, zero_alone, number, digits_within, digits, largest}
@@ -207,12 +207,6 @@ width_power (suc k) n l h =
     let p : 10 ^ suc k ≡ 10 * 10 ^ k = pow-succ' 10 k in
     let one : 1 ≤ 10 ^ k = one-le-pow k 10 (omega arith) in
     omega (arith, width-more n (omega arith), width_power k (n / 10) (omega arith) (omega arith))
-
--- by the logarithm, where there is one: 0 has none, and one digit
-pub width-log : (o : Option ℕ) (n w : ℕ) {P : ℕ → Type 0} → IfNone o (n ≡ 0) → IfSome o (λ k. 10 ^ k ≤ n) → IfSome o (λ k. n < 10 * 10 ^ k)
-    → MatchOption o (w ≡ 1) P → ((k : ℕ) → P k → w ≡ k + 1) → w ≡ length (digits n)
-width-log None n w z l h e at = e ∙ sym (width_small n (omega (arith, z)))
-width-log (Some k) n w z l h e at = at k e ∙ sym (width_power k n l h)
 
 -- below 10 one digit
 pub width_one : (n : ℕ) → n < 10 → length (digits n) ≤ 1

@@ -1,12 +1,11 @@
 -- `print_out`: 53,000 bytes are enough for every listing, so a refusal is one of the sheet's own; and for the line of every refusal. Assumes nothing.
 use Prim.Native.Nat.{ℕ, ◌≤◌}
-use mathlib.Core.Path.{◌≡◌, refl, sym, ap, ◌∙◌}
+use mathlib.Core.Path.{◌≡◌, refl, sym, ap, ap₂, ◌∙◌}
 use mathlib.Core.List.{List}
 use native.Mathlib.Omega.{arith}
 use lib.ListN.{length}
 use Rattle.std.proofs.Common.{Some}
 use Rattle.words.specs.Pieces.{write}
-use Rattle.request.specs.Refusal.{number_of, place_of}
 use Rattle.listing.specs.Listing.{refusal_line}
 use Rattle.printout.specs.Printout.{printout_of}
 use Rattle.printout.proofs.Printing.{prints-listing, prints-refusal, printed-bytes, printed-text}
@@ -17,13 +16,13 @@ use Rattle.printout.proofs.print_out.Goals.{After-print_refusal}
 
 module _ (c : After-print_refusal) where
   abbrev line_of : List ℕ
-  line_of = refusal_line (number_of c.in-Err.refusal) (place_of c.in-Err.refusal)
+  line_of = refusal_line c.number.result c.place.result
 
   -- its line is what is printed, and the text is as it was
   told : (line_of ≡ printout_of c.args.sheet.now) × (c.list.new.listing ≡ c.args.text.now)
   told =
       let p = prints-refusal c.args.sheet.now c.args.text.now c.requires c.in-Err.refusal (sym c.in-Err.is ∙ c.list.ensures.value) in
-      (p.0, c.list.ensures.listing_after ∙ p.1)
+      (ap₂ refusal_line c.number.ensures c.place.ensures ∙ p.0, c.list.ensures.listing_after ∙ p.1)
 
   -- which has room for it
   room : length line_of ≤ length c.list.new.listing

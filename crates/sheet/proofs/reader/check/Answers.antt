@@ -12,7 +12,7 @@ use Rattle.sheet.specs.Inside.{form_of}
 use Rattle.sheet.proofs.LineKinds.{no-err, told-good, filled, criteria-out, criteria-in}
 use Rattle.sheet.proofs.First.{sheet-loose, sheet-line, first-err, first_in, first-other}
 use Rattle.sheet.proofs.reader.check.Goals as goal
-use Rattle.sheet.proofs.reader.check.Goals.{After-word_line-first, Else-is_err-2, then-sheet-e-via-then-sheet-e, then-sheet-e-via-else-sheet-e+then-is_err, then-sheet-e-via-else-sheet-e+else-is_err+then-is_err-2}
+use Rattle.sheet.proofs.reader.check.Goals.{After-word_line-first, Else-is_err-2, then-is_err-via-then-is_err, then-is_err-via-else-is_err+then-is_err-2}
 
 -- the sheet by what was read of its first line
 module _ (c : After-word_line-first) where
@@ -32,19 +32,21 @@ module _ (c : After-word_line-first) where
   two-long e = (line_of-was tab tracks_word 2 c.cut-line.result.now c.word_line-first.new.out (two-are e)).1
 
 pub returns-then-sheet-e : goal.returns-then-sheet-e
-returns-then-sheet-e c = let s = c.args.sheet.now in
+returns-then-sheet-e c = sym (ap form_of (sheet-loose c.args.sheet.now c.cut-line.result.now c.cut-line.ensures c.if-sheet-e.true))
+
+pub returns-then-is_err : goal.returns-then-is_err
+returns-then-is_err c = let s = c.args.sheet.now in
     let line = c.cut-line.result.now in
     let rest = drop (length line + 1) s in
-    let h = (goal.at.returns-then-sheet-e c).After-word_line-first in
+    let h = (goal.at.returns-then-is_err c).After-word_line-first in
     sym (ap form_of
-    (elim c.then-sheet-e.branch [
-      | then-sheet-e-via-then-sheet-e w ↦ sheet-loose s line c.cut-line.ensures w.if-sheet-e.true
-      | then-sheet-e-via-else-sheet-e+then-is_err w ↦
-          sheet-line s line c.cut-line.ensures w.if-sheet-e.false
-          ∙ first-err (tracks_line line) rest (ap is_err (sym c.word_line-first.ensures.value) ∙ sym w.is_err.ensures.value ∙ w.if-is_err.true)
-      | then-sheet-e-via-else-sheet-e+else-is_err+then-is_err-2 w ↦
+    (elim c.then-is_err.branch [
+      | then-is_err-via-then-is_err w ↦
+          sheet-line s line c.cut-line.ensures c.if-sheet-e.false
+          ∙ first-err (tracks_line line) rest (ap is_err (sym c.word_line-first.ensures.value) ∙ sym c.is_err.ensures.value ∙ w.if-is_err.true)
+      | then-is_err-via-else-is_err+then-is_err-2 w ↦
           let d = criteria-out _ _ w.weigh_criteria.ensures (sym w.is_err-else-is_err.ensures.value ∙ w.if-is_err-2.true) in
-          first_good h w.if-sheet-e.false (sym w.is_err.ensures.value ∙ w.if-is_err.false)
+          first_good h c.if-sheet-e.false (sym c.is_err.ensures.value ∙ w.if-is_err.false)
           ∙ first-other c.word_line-first.new.out rest d.0 d.1
     ]))
 

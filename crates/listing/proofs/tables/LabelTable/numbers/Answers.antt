@@ -23,11 +23,11 @@ use Rattle.listing.proofs.Chains.{count-is}
 use Rattle.listing.proofs.Numbers as numbers
 use Rattle.listing.proofs.Places.{label_is, cost-count, found-costs}
 use Rattle.listing.proofs.tables.LabelTable.numbers.Goals as goal
-use Rattle.listing.proofs.tables.LabelTable.numbers.Goals.{After-copy_from_slice}
+use Rattle.listing.proofs.tables.LabelTable.numbers.Goals.{After-copy}
 
 -- ---- after the costs
 
-module _ (c : After-copy_from_slice) where
+module _ (c : After-copy) where
   abbrev R-of : Req
   R-of = asked_in c.args.self.now.store
 
@@ -35,14 +35,14 @@ module _ (c : After-copy_from_slice) where
   d-of = c.args.self.now.store.request.criteria
 
   abbrev costs-of : List ℕ
-  costs-of = c.copy_from_slice.new.self
+  costs-of = c.copy.new.part
 
   -- those of the label
   stored : costs-of ≡ costs R-of (last_label R-of c.args.self.now.store.labels.now c.args.node c.args.cell)
   unfolding costs
   stored =
       let p = c.requires.node_lt_nodes in
-      c.copy_from_slice.ensures.after ∙ ap (take d-of) (label_is c.args.self.now _ _ p.0 p.1 _ _ c.spot-spot.ensures c.label.ensures)
+      c.copy.ensures ∙ ap (take d-of) (label_is c.args.self.now _ _ p.0 p.1 _ _ c.spot-spot.ensures c.label.ensures)
 
   -- d of them
   size : length costs-of ≡ d-of
@@ -67,7 +67,7 @@ module _ (c : After-copy_from_slice) where
 
 -- ---- after the arcs
 
-module _ (k : After-copy_from_slice) (zs : List ℕ) where
+module _ (k : After-copy) (zs : List ℕ) where
   abbrev arcs-of : List ℕ
   arcs-of = let s = k.args.self.now.store in arcs_of (chain (asked_in s) s.labels.now s.request.hops k.args.node k.args.cell)
 
@@ -97,11 +97,11 @@ followed R W i v c s l ys r e f g = (
   g ∙ ap (λ (p : Spot). write l 0 (arcs_of (chain R W p.layer p.node p.cell))) e,
 )
 
-pub slice_bounds-copy_from_slice-end-2 : goal.slice_bounds-copy_from_slice-end-2
-slice_bounds-copy_from_slice-end-2 c = let p = c.requires.node_lt_nodes in sym (found-costs c.args.self.now _ _ p.0 p.1 _ _ c.spot-spot.ensures c.label.ensures)
+pub slice_bounds-copy-end-2 : goal.slice_bounds-copy-end-2
+slice_bounds-copy-end-2 c = let p = c.requires.node_lt_nodes in sym (found-costs c.args.self.now _ _ p.0 p.1 _ _ c.spot-spot.ensures c.label.ensures)
 
-pub copy_from_slice-requires : goal.copy_from_slice-requires
-copy_from_slice-requires c =
+pub copy-requires : goal.copy-requires
+copy-requires c =
     let d = c.args.self.now.store.request.criteria in
     let w = c.args.words.now in
     let p = c.requires.node_lt_nodes in
@@ -111,22 +111,22 @@ copy_from_slice-requires c =
     ∙ sym (found-costs c.args.self.now _ _ p.0 p.1 _ _ c.spot-spot.ensures c.label.ensures)
 
 pub follow-requires-clause-room : goal.follow-requires-clause-room
-follow-requires-clause-room c = room (goal.at.follow-requires-clause-room c).After-copy_from_slice
+follow-requires-clause-room c = room (goal.at.follow-requires-clause-room c).After-copy
 
 pub bounds-words-d : goal.bounds-words-d
 bounds-words-d c =
     let f = followed _ _ _ _ _ _ _ _ _ c.spot-spot.ensures c.follow.ensures.value c.follow.ensures.route_after in
-    omega (arith, long-still (goal.at.bounds-words-d c).After-copy_from_slice _ f.1, c.args.self.now.store.small.three)
+    omega (arith, long-still (goal.at.bounds-words-d c).After-copy _ f.1, c.args.self.now.store.small.three)
 
 pub overflow_add-result-2 : goal.overflow_add-result-2
 overflow_add-result-2 c =
     let f = followed _ _ _ _ _ _ _ _ _ c.spot-spot.ensures c.follow.ensures.value c.follow.ensures.route_after in
-    omega (arith, c.unwrap_or-arcs.ensures, f.0, few (goal.at.overflow_add-result-2 c).After-copy_from_slice c.follow.new.route, c.args.self.now.store.small.three)
+    omega (arith, c.unwrap_or-arcs.ensures, f.0, few (goal.at.overflow_add-result-2 c).After-copy c.follow.new.route, c.args.self.now.store.small.three)
 
 pub slice_bounds-result-end : goal.slice_bounds-result-end
 slice_bounds-result-end c =
     let f = followed _ _ _ _ _ _ _ _ _ c.spot-spot.ensures c.follow.ensures.value c.follow.ensures.route_after in
-    let k = (goal.at.slice_bounds-result-end c).After-copy_from_slice in
+    let k = (goal.at.slice_bounds-result-end c).After-copy in
     let h = long-still k _ f.1 in
     let fits : c.args.self.now.store.request.criteria + 2 + c.unwrap_or-arcs.result ≤ 68 = omega (arith, c.unwrap_or-arcs.ensures, f.0, few k c.follow.new.route, c.args.self.now.store.small.three) in
     sym (length-take-le _ _ (omega (arith, length-set (words_of k _ f.1) (c.args.self.now.store.request.criteria + 1) c.unwrap_or-arcs.result)))
@@ -134,4 +134,4 @@ slice_bounds-result-end c =
 pub returns : goal.returns
 returns c =
     let f = followed _ _ _ _ _ _ _ _ _ c.spot-spot.ensures c.follow.ensures.value c.follow.ensures.route_after in
-    numbers-are (goal.at.returns c).After-copy_from_slice _ f.1 c.unwrap_or-arcs.result (c.unwrap_or-arcs.ensures ∙ f.0)
+    numbers-are (goal.at.returns c).After-copy _ f.1 c.unwrap_or-arcs.result (c.unwrap_or-arcs.ensures ∙ f.0)
